@@ -1,0 +1,5 @@
+pub mod Lists
+pub mod Notes
+pub mod Store
+pub mod Parts
+pub mod View

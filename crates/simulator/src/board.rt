@@ -1,0 +1,34 @@
+// The machine: memory, spaces, what the unit keeps, and all that happened, each in lent memory.
+ghost use Prim.Native.Nat.{_+_, _≤_};
+ghost use lib.ListN.{length};
+ghost use denote.Ref.{now};
+ghost use mathlib.Core.List.{map};
+ghost use Rattle.simulator.specs.Lists.{newest};
+ghost use Rattle.simulator.specs.Notes.{blank, eventOf, owed};
+use crate::dice::Dice;
+use crate::kept::Kept;
+use crate::log::Log;
+use crate::memory::Memory;
+use crate::rows::Device;
+use crate::spaces::Spaces;
+
+mod asked;
+
+// One event is owed for each thing that may still be asked of it, and one for the answer while a call is served.
+#[derive(Drop)]
+pub struct Board<'a> {
+    memory: Memory<'a>,
+    spaces: Spaces<'a>,
+    devices: &'a [Device],
+    live: bool,
+    ups: Kept<'a>,
+    mids: Kept<'a>,
+    leaves: Kept<'a>,
+    flying: Kept<'a>,
+    left: u64,
+    log: Log<'a>,
+    dice: Dice,
+    refusals: u64,
+    ghost few: { length (now devices) ≤ 32 },
+    ghost room: { log .count + left + owed (map eventOf (newest blank (now (log .notes)) (log .count))) ≤ length (now (log .notes)) },
+}

@@ -1,0 +1,9 @@
+// A machine in memory that plays all the tricks that the unit and devices may play.
+pub mod board;
+pub mod dice;
+pub mod kept;
+mod lists;
+pub mod log;
+pub mod memory;
+pub mod rows;
+pub mod spaces;
