@@ -1,2 +1,7 @@
+mod Accesses
+mod Asked
+mod Forgets
 mod Listed
+mod Owed
+mod Tricks
 mod Words

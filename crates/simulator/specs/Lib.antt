@@ -3,3 +3,5 @@ pub mod Notes
 pub mod Store
 pub mod Parts
 pub mod View
+pub mod Walks
+pub mod Effects

@@ -2,7 +2,7 @@
 -- Assumes nothing.
 use mathlib.Core.Bool.{Bool, true, false, cond, _||_}
 use mathlib.Core.List.{List, [], _∷_}
-use Prim.Native.Nat.{ℕ, zero, suc, _/_}
+use Prim.Native.Nat.{ℕ, zero, suc, _/_, _%_}
 use lib.Dec.{eqb, ltb}
 use lib.ListN.{getD}
 
@@ -19,9 +19,15 @@ among w (x ∷ xs) = eqb w x || among w xs
 abbrev pub learnt : ℕ → ℕ → ℕ → List ℕ → List ℕ
 learnt w n m xs = cond (among w xs) xs (cond (ltb n m) (w ∷ xs) xs)
 
--- the device that a word is of
+-- A word that the unit keeps has a device, then 18 bits for a slot or a page, then 18 for a table or an entry.
 abbrev pub deviceIn : ℕ → ℕ
 deviceIn w = w / 68719476736
+
+abbrev pub placeIn : ℕ → ℕ
+placeIn w = w / 262144 % 262144
+
+abbrev pub valueIn : ℕ → ℕ
+valueIn w = w % 262144
 
 -- all but what is of device d
 unfoldable pub without : ℕ → List ℕ → List ℕ

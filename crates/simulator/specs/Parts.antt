@@ -2,23 +2,17 @@
 -- Assumes nothing.
 use mathlib.Core.Bool.{Bool}
 use mathlib.Core.List.{List, [], _∷_, map}
-use Prim.Native.Nat.{ℕ, _/_, _%_}
+use Prim.Native.Nat.{ℕ}
 use lib.ListN.{length}
 use Rattle.house.specs.Event.{Event}
 use Rattle.house.specs.Machine.{Hw, Up, Mid, Leaf, Steps, Runs}
 use Rattle.simulator.specs.declared.rows.Note.{Note}
 use Rattle.simulator.specs.declared.rows.Device.{Device}
-use Rattle.simulator.specs.Lists.{deviceIn}
+use Rattle.simulator.specs.Lists.{deviceIn, placeIn, valueIn}
 use Rattle.simulator.specs.Notes.{eventOf}
 use Rattle.simulator.specs.Store.{memOf, spaceOf, groupOf, driverOf}
 
--- A word that the unit keeps has a device, then 18 bits for a slot or a page, then 18 for a table or an entry.
-abbrev pub placeIn : ℕ → ℕ
-placeIn w = w / 262144 % 262144
-
-abbrev pub valueIn : ℕ → ℕ
-valueIn w = w % 262144
-
+-- what a word says, as an upper table, a lower one, a page
 abbrev pub upOf : ℕ → Up
 upOf w = record { dev = deviceIn w; table = valueIn w }
 
@@ -47,6 +41,11 @@ hwOf p =
 
 abbrev pub seenOf : Parts → List Event
 seenOf p = map eventOf (p .notes)
+
+-- the same parts but for what was noted
+abbrev pub noted : List Note → Parts → Parts
+noted ns p =
+    record { frames = p .frames; devices = p .devices; mem = p .mem; space = p .space; live = p .live; ups = p .ups; mids = p .mids; leaves = p .leaves; flying = p .flying; left = p .left; notes = ns }
 
 -- devices and the unit took steps, from one to the other
 abbrev pub Goes : Parts → Parts → Type 0

@@ -12,7 +12,11 @@ use crate::memory::Memory;
 use crate::rows::Device;
 use crate::spaces::Spaces;
 
+mod accesses;
 mod asked;
+mod drains;
+mod tricks;
+mod walks;
 
 // One event is owed for each thing that may still be asked of it, and one for the answer while a call is served.
 #[derive(Drop)]

@@ -3,10 +3,21 @@ ghost use mathlib.Core.Path.{_≡_};
 ghost use Prim.Native.Nat.{_+_, _-_, _<_, _≤_};
 ghost use lib.ListN.{length};
 ghost use Rattle.house.specs.Machine.{dropOne};
-ghost use Rattle.simulator.specs.Lists.{newest, among, deviceIn, without};
+ghost use Rattle.simulator.specs.Lists.{newest, among, deviceIn, placeIn, valueIn, without};
 
 // What a device's number is multiplied by in a word that tells of it.
 pub const DEVICE: u64 = 0x10_0000_0000;
+
+// What a slot's or a page's number is multiplied by; below it stands a table or an entry.
+pub const PLACE: u64 = 0x4_0000;
+
+// A word that tells of a device, a slot or a page of it, and a table or an entry there.
+pub fn word_of(device: u64, place: u32, value: u64) -> u64
+    requires { ⌜ device < 268435456 ⌝ ∗ ⌜ place < 262144 ⌝ ∗ ⌜ value < 262144 ⌝ }
+    ensures { λ r. ⌜ deviceIn r ≡ device ⌝ ∗ ⌜ placeIn r ≡ place ⌝ ∗ ⌜ valueIn r ≡ value ⌝ }
+{
+    device * DEVICE + place as u64 * PLACE + value
+}
 
 // Lent words, of which some user has a list in the front.
 #[derive(Drop)]

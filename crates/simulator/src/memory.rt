@@ -3,6 +3,7 @@ ghost use mathlib.Core.Path.{_≡_};
 ghost use Prim.Native.Nat.{ℕ, _+_, _*_, _<_, _≤_};
 ghost use lib.ListN.{length, set};
 ghost use denote.Ref.{now};
+ghost use Rattle.std.specs.Options.{Cases};
 ghost use Rattle.simulator.specs.Store.{memOf};
 
 #[derive(Drop)]
@@ -30,6 +31,20 @@ impl<'a> Memory<'a> {
         } else {
             0
         }
+    }
+
+    // The first word of a frame that is not 0, from `from` on and then from its start.
+    pub fn first_set(&self, frame: u64, from: u32) -> Option<u32>
+        requires { ⌜ from < 512 ⌝ }
+        ensures { λ r. ⌜ Cases r (Unit {0}) (λ k. (k < 512) × (0 < memOf (now (now (self .entry) .words)) frame k)) ⌝ }
+    {
+        for j in 0..512 {
+            let k = (from + j) % 512;
+            if self.word(frame, k) > 0 {
+                return Some(k);
+            }
+        }
+        None
     }
 
     pub fn write(&mut self, frame: u32, word: u32, x: u64)
