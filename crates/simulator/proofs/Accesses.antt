@@ -12,7 +12,7 @@ use Rattle.house.specs.Event.{Event, TookFrom, PutInto, Missed}
 use Rattle.house.specs.Machine.{Hw, Up, Mid, Leaf, Step, Steps, none, more, known, frameIn, mayWrite, withMem, put, walked, upper, lower}
 use Rattle.simulator.specs.declared.rows.Note.{Note}
 use Rattle.simulator.specs.Notes.{eventOf}
-use Rattle.simulator.specs.Store.{memOf}
+use Rattle.simulator.specs.Store.{memOf, spaceOf}
 use Rattle.simulator.specs.Parts.{Parts, hwOf, seenOf, Goes, noted}
 use Rattle.simulator.specs.Effects.{PutAt, TookAt, MissedAt}
 use Rattle.simulator.proofs.Tricks.{truly}
@@ -24,7 +24,7 @@ pub mem-path : (p : Parts) (fr : ℕ) (ws : List ℕ) (f k x : ℕ) → length (
   hwOf (written fr ws (p .left) p) ≡ withMem (put f k x (memOf (p .mem))) (hwOf p)
 mem-path p fr ws f k x len lf lk ef ew =
     let m : memOf ws ≡ put f k x (memOf (p .mem)) = subst (λ (us : List ℕ). memOf us ≡ put f k x (memOf (p .mem))) (sym ew) (fun-ext (λ g. fun-ext (λ j. mem-set (p .mem) (p .frames) f k x len lf lk g j))) in
-    λ t. record { frames = ef t; devices = length (p .devices); group = hwOf p .group; driver = hwOf p .driver; mem = m t; space = hwOf p .space; live = p .live; ups = hwOf p .ups; mids = hwOf p .mids; leaves = hwOf p .leaves; flying = hwOf p .flying; left = p .left }
+    λ t. record { frames = ef t; devices = length (p .devices); group = hwOf p .group; driver = hwOf p .driver; mem = m t; space = spaceOf (ef t) (p .space); live = p .live; ups = hwOf p .ups; mids = hwOf p .mids; leaves = hwOf p .leaves; flying = hwOf p .flying; left = p .left }
 
 -- noted first, and then written
 pub noted-written : (p b : Parts) (n : Note) (e : Event) (fr : ℕ) (ws : List ℕ) (f k x : ℕ) → b ≡ noted (n ∷ p .notes) p → eventOf n ≡ e → length (p .mem) ≡ 512 * p .frames → f < p .frames → k < 512 → fr ≡ b .frames →

@@ -53,25 +53,25 @@ mem-set ws n f k x e lf lk g j = by (cases-lt j 512) (cases-eq g f) (cases-eq j 
         and-false false = refl
 
 -- one place of a space changed
-pub space-set : (ws : List ℕ) (c v w : ℕ) → length ws ≡ 32768 → c < 32 → v < 1024 → (b u : ℕ) → spaceOf (set ws (1024 * c + v) w) b u ≡ cond (eqb b c && eqb u v) (shownOf w) (spaceOf ws b u)
-space-set ws c v w e lc lv b u = by (cases-lt b 32) (cases-lt u 1024) (cases-eq b c) (cases-eq u v)
+pub space-set : (n : ℕ) (ws : List ℕ) (c v w : ℕ) → length ws ≡ 32768 → c < 32 → v < 1024 → (b u : ℕ) → spaceOf n (set ws (1024 * c + v) w) b u ≡ cond (eqb b c && eqb u v) (shownOf n w) (spaceOf n ws b u)
+space-set n ws c v w e lc lv b u = by (cases-lt b 32) (cases-lt u 1024) (cases-eq b c) (cases-eq u v)
   where
     i : ℕ
     i = 1024 * c + v
     and-false : (d : Bool) → (d && false) ≡ false
     and-false true = refl
     and-false false = refl
-    by : (b < 32) ⊎ (32 ≤ b) → (u < 1024) ⊎ (1024 ≤ u) → (b ≡ c) ⊎ (b ≡ c → ⊥) → (u ≡ v) ⊎ (u ≡ v → ⊥) → spaceOf (set ws i w) b u ≡ cond (eqb b c && eqb u v) (shownOf w) (spaceOf ws b u)
+    by : (b < 32) ⊎ (32 ≤ b) → (u < 1024) ⊎ (1024 ≤ u) → (b ≡ c) ⊎ (b ≡ c → ⊥) → (u ≡ v) ⊎ (u ≡ v → ⊥) → spaceOf n (set ws i w) b u ≡ cond (eqb b c && eqb u v) (shownOf n w) (spaceOf n ws b u)
     by (inl l) (inl m) (inl p) (inl q) =
         let s = getD-set-same ws i w 0 (omega arith) in
         let r : 1024 * b + u ≡ i = omega arith in
-        simp (lt-ltb b 32 l, lt-ltb u 1024 m, eq-eqb b c p, eq-eqb u v q) (let z : getD (set ws i w) (1024 * b + u) 0 ≡ w = rw r s in ap shownOf z)
+        simp (lt-ltb b 32 l, lt-ltb u 1024 m, eq-eqb b c p, eq-eqb u v q) (let z : getD (set ws i w) (1024 * b + u) 0 ≡ w = rw r s in ap (shownOf n) z)
     by (inl l) (inl m) (inl p) (inr q) =
         let r : 1024 * b + u ≢ i = λ h. q (omega arith) in
-        simp (lt-ltb b 32 l, lt-ltb u 1024 m, eq-eqb b c p, ne-eqb u v q) (ap shownOf (getD-set-other ws i (1024 * b + u) w 0 r))
+        simp (lt-ltb b 32 l, lt-ltb u 1024 m, eq-eqb b c p, ne-eqb u v q) (ap (shownOf n) (getD-set-other ws i (1024 * b + u) w 0 r))
     by (inl l) (inl m) (inr p) h =
         let r : 1024 * b + u ≢ i = λ k. p (omega arith) in
-        simp (lt-ltb b 32 l, lt-ltb u 1024 m, ne-eqb b c p) (ap shownOf (getD-set-other ws i (1024 * b + u) w 0 r))
+        simp (lt-ltb b 32 l, lt-ltb u 1024 m, ne-eqb b c p) (ap (shownOf n) (getD-set-other ws i (1024 * b + u) w 0 r))
     by (inl l) (inr m) h (inl q) = absurd (omega arith)
     by (inl l) (inr m) h (inr q) = simp (lt-ltb b 32 l, le-ltb u 1024 m, ne-eqb u v q, and-false (eqb b c)) refl
     by (inr l) m (inl p) h = absurd (omega arith)

@@ -37,7 +37,7 @@ pub record Parts : Type 0 where
 
 abbrev pub hwOf : Parts → Hw
 hwOf p =
-    record { frames = p .frames; devices = length (p .devices); group = groupOf (p .devices); driver = driverOf (p .devices); mem = memOf (p .mem); space = spaceOf (p .space); live = p .live; ups = map upOf (p .ups); mids = map midOf (p .mids); leaves = map leafOf (p .leaves); flying = map leafOf (p .flying); left = p .left }
+    record { frames = p .frames; devices = length (p .devices); group = groupOf (p .devices); driver = driverOf (p .devices); mem = memOf (p .mem); space = spaceOf (p .frames) (p .space); live = p .live; ups = map upOf (p .ups); mids = map midOf (p .mids); leaves = map leafOf (p .leaves); flying = map leafOf (p .flying); left = p .left }
 
 abbrev pub seenOf : Parts → List Event
 seenOf p = map eventOf (p .notes)

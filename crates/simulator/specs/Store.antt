@@ -6,18 +6,26 @@ use Prim.Native.Nat.{ℕ, zero, suc, _+_, _-_, _*_, _%_}
 use lib.Dec.{eqb, ltb, leb}
 use lib.ListN.{getD, length}
 use Rattle.house.specs.Machine.{Shown, Nothing, Frame, Registers}
+use Rattle.simulator.specs.declared.spaces.View.{View}
+use Rattle.simulator.specs.declared.spaces.View.the-variants.{Hidden, Page, Regs}
 use Rattle.simulator.specs.declared.rows.Device.{Device}
 
 -- a frame's words, one after the other; what isn't there is 0
 abbrev pub memOf : List ℕ → ℕ → ℕ → ℕ
 memOf ws f k = cond (ltb k 512) (getD ws (512 * f + k) 0) 0
 
--- a place: 0 nothing, up to 65536 a frame plus 1, beyond that a device plus 65537
-abbrev pub shownOf : ℕ → Shown
-shownOf w = cond (eqb w 0) Nothing (cond (leb w 65536) (Frame (w - 1)) (Registers (w - 65537)))
+-- a place: 0 nothing, up to the number n of frames a frame plus 1, beyond 65536 a device plus 65537
+abbrev pub shownOf : ℕ → ℕ → Shown
+shownOf n w = cond (eqb w 0) Nothing (cond (leb w n) (Frame (w - 1)) (cond (leb w 65536) Nothing (Registers ((w - 65537) % 32))))
 
-abbrev pub spaceOf : List ℕ → ℕ → ℕ → Shown
-spaceOf ws c v = cond (ltb c 32) (cond (ltb v 1024) (shownOf (getD ws (1024 * c + v) 0)) Nothing) Nothing
+abbrev pub spaceOf : ℕ → List ℕ → ℕ → ℕ → Shown
+spaceOf n ws c v = cond (ltb c 32) (cond (ltb v 1024) (shownOf n (getD ws (1024 * c + v) 0)) Nothing) Nothing
+
+-- what code calls a view
+abbrev pub viewOf : View → Shown
+viewOf Hidden = Nothing
+viewOf (Page f) = Frame f
+viewOf (Regs d) = Registers d
 
 abbrev pub noDevice : Device
 noDevice = record { group = 0; driver = 0 }

@@ -1,17 +1,16 @@
 // What each of 1,024 places shows to each of 32 programs, in one lent slice.
 ghost use mathlib.Core.Path.{_≡_};
 ghost use Prim.Native.Nat.{ℕ, _+_, _*_, _<_, _≤_};
-ghost use lib.ListN.{length, set, getD};
+ghost use lib.ListN.{length, set};
 ghost use denote.Ref.{now};
-ghost use Rattle.house.specs.Machine.{Nothing, Frame, Registers};
-ghost use Rattle.simulator.specs.Store.{spaceOf};
+ghost use Rattle.simulator.specs.Store.{spaceOf, viewOf};
 
-// What a place shows.
+// What a place shows: nothing, a page in a frame, a device's registers.
 #[derive(Clone, Copy)]
 pub enum View {
-    Nothing,
-    Frame(u32),
-    Registers(u32),
+    Hidden,
+    Page(u32),
+    Regs(u32),
 }
 
 #[derive(Drop)]
@@ -21,11 +20,21 @@ pub struct Spaces<'a> {
 }
 
 impl<'a> Spaces<'a> {
-    pub fn at(&self, who: u32, v: u32) -> u64
-        requires { ⌜ who < 32 ⌝ ∗ ⌜ v < 1024 ⌝ }
-        ensures { λ r. ⌜ r ≡ getD (now (now (self .entry) .words)) (1024 * who + v) 0 ⌝ }
+    // What a place shows, if there are so many frames.
+    pub fn view(&self, who: u32, v: u32, frames: u32) -> View
+        requires { ⌜ who < 32 ⌝ ∗ ⌜ v < 1024 ⌝ ∗ ⌜ frames ≤ 65536 ⌝ }
+        ensures { λ r. ⌜ viewOf r ≡ spaceOf frames (now (now (self .entry) .words)) who v ⌝ }
     {
-        self.words[1024 * who as usize + v as usize]
+        let w = self.words[1024 * who as usize + v as usize];
+        if w == 0 {
+            View::Hidden
+        } else if w <= frames as u64 {
+            View::Page((w - 1) as u32)
+        } else if w <= 65536 {
+            View::Hidden
+        } else {
+            View::Regs(((w - 65537) % 32) as u32)
+        }
     }
 
     pub fn set(&mut self, who: u32, v: u32, w: u64)

@@ -66,7 +66,7 @@ impl<'a> Board<'a> {
     // A place shows what a word of spaces says.
     fn place(&mut self, who: u32, v: u32, w: u64)
         requires { ⌜ 0 < hwOf (partsOf (now self)) .left ⌝ ∗ ⌜ who < 32 ⌝ ∗ ⌜ v < 1024 ⌝ }
-        ensures { λ _. ⌜ Steps (counted (shows who v (shownOf w) (hwOf (partsOf (now (self .entry)))))) (seenOf (partsOf (now (self .entry)))) (hwOf (partsOf (now (self .exit)))) (seenOf (partsOf (now (self .exit)))) ⌝ }
+        ensures { λ _. ⌜ Steps (counted (shows who v (shownOf (partsOf (now (self .entry)) .frames) w) (hwOf (partsOf (now (self .entry)))))) (seenOf (partsOf (now (self .entry)))) (hwOf (partsOf (now (self .exit)))) (seenOf (partsOf (now (self .exit)))) ⌝ }
     {
         self.spaces.set(who, v, w);
         self.left -= 1;
