@@ -2,3 +2,4 @@ pub mod Event
 pub mod Machine
 pub mod Meaning
 pub mod Promise
+pub mod Sound

@@ -99,9 +99,9 @@ pub data Step : Hw → List Event → Hw → Type 0 where
   -- the unit learns, from memory or from what it knows
   up : (h : Hw) (d t : ℕ) → T (h .live) → d < h .devices → h .mem 0 d ≡ suc t → Step h [] (known (record { dev = d; table = t } ∷ h .ups) (h .mids) (h .leaves) (h .flying) h)
   mid : (h : Hw) (u : Up) (s t : ℕ) → List·Memᴰ u (h .ups) → s < 512 → h .mem (u .table) s ≡ suc t →
-    Step h [] (known (h .ups) (record { dev = u .dev; slot = s; table = t } ∷ h .mids) (h .leaves) (h .flying) h)
+      Step h [] (known (h .ups) (record { dev = u .dev; slot = s; table = t } ∷ h .mids) (h .leaves) (h .flying) h)
   leaf : (h : Hw) (m : Mid) (i : ℕ) → List·Memᴰ m (h .mids) → i < 512 → 0 < h .mem (m .table) i →
-    Step h [] (known (h .ups) (h .mids) (record { dev = m .dev; page = 512 * m .slot + i; entry = h .mem (m .table) i } ∷ h .leaves) (h .flying) h)
+      Step h [] (known (h .ups) (h .mids) (record { dev = m .dev; page = 512 * m .slot + i; entry = h .mem (m .table) i } ∷ h .leaves) (h .flying) h)
   -- and forgets
   lessUp : (h : Hw) (n : ℕ) → Step h [] (known (dropOne n (h .ups)) (h .mids) (h .leaves) (h .flying) h)
   lessMid : (h : Hw) (n : ℕ) → Step h [] (known (h .ups) (dropOne n (h .mids)) (h .leaves) (h .flying) h)
@@ -111,7 +111,7 @@ pub data Step : Hw → List Event → Hw → Type 0 where
   fails : (h : Hw) (n : ℕ) → Step h [] (known (h .ups) (h .mids) (h .leaves) (dropOne n (h .flying)) h)
   takes : (h : Hw) (l : Leaf) (k : ℕ) → List·Memᴰ l (h .flying) → k < 512 → Step h (TookFrom (l .dev) (l .page) (frameIn (l .entry)) k (h .mem (frameIn (l .entry)) k) ∷ []) h
   puts : (h : Hw) (l : Leaf) (k x : ℕ) → List·Memᴰ l (h .flying) → k < 512 → x < 18446744073709551616 → T (mayWrite (l .entry)) →
-    Step h (PutInto (l .dev) (l .page) (frameIn (l .entry)) k x ∷ []) (withMem (put (frameIn (l .entry)) k x (h .mem)) h)
+      Step h (PutInto (l .dev) (l .page) (frameIn (l .entry)) k x ∷ []) (withMem (put (frameIn (l .entry)) k x (h .mem)) h)
   -- a device finds nothing, which happens only if memory says so
   misses : (h : Hw) (d p : ℕ) (w : Bool) → d < h .devices → p < 262144 → (walked h d p ≡ 0) ⊎ (T w × T (not (mayWrite (walked h d p)))) → Step h (Missed d p w ∷ []) h
 
@@ -126,7 +126,7 @@ pub data Runs : Hw → List Event → Hw → List Event → Type 0 where
   device : {h i j : Hw} {es fs gs : List Event} → Step h fs i → Runs i (fs ++ es) j gs → Runs h es j gs
   loads : {h j : Hw} {es gs : List Event} (c v f k : ℕ) → c < 32 → v < 1024 → k < 512 → h .space c v ≡ Frame f → Runs h (Loaded c v k (h .mem f k) ∷ es) j gs → Runs h es j gs
   stores : {h j : Hw} {es gs : List Event} (c v f k x : ℕ) → c < 32 → v < 1024 → k < 512 → x < 18446744073709551616 → h .space c v ≡ Frame f →
-    Runs (withMem (put f k x (h .mem)) h) (Stored c v k x ∷ es) j gs → Runs h es j gs
+      Runs (withMem (put f k x (h .mem)) h) (Stored c v k x ∷ es) j gs → Runs h es j gs
   pokes : {h j : Hw} {es gs : List Event} (c v d : ℕ) → c < 32 → v < 1024 → h .space c v ≡ Registers d → Runs h (Poked c v d ∷ es) j gs → Runs h es j gs
   faults : {h j : Hw} {es gs : List Event} (c v : ℕ) → c < 32 → v < 1024 → h .space c v ≡ Nothing → Runs h (Faulted c v ∷ es) j gs → Runs h es j gs
 

@@ -155,7 +155,7 @@ why s c (Close d) = orElse (leb (s .devices) d) 1 (orElse (not (ownerIs c (s .de
 why s c (Regs d v) = orElse (leb (s .devices) d || leb 1024 v) 1 (orElse (taken s c v) 3 (orElse (not (openBy c (s .dev d))) 5 0))
 why s c (Lend v d p w) =
     orElse (leb 1024 v || leb (s .devices) d || leb 262144 p) 1 (orElse (not (has s c v)) 2 (orElse (used s d p) 3 (orElse (not (isHome (loan s c v))) 4
-      (orElse (not (openBy c (s .dev d))) 5 (orElse (not (s .slots d (p / 512)) && full s) 7 0)))))
+    (orElse (not (openBy c (s .dev d))) 5 (orElse (not (s .slots d (p / 512)) && full s) 7 0)))))
 why s c (Recall v) = orElse (leb 1024 v) 1 (orElse (not (has s c v)) 2 (orElse (isHome (loan s c v)) 4 0))
 why s c (End w) = orElse (leb 32 w) 1 (orElse (not (eqb c 0)) 8 0)
 
@@ -216,7 +216,7 @@ noTable d (Of c v l) = Of c v l
 abbrev pub shut : ℕ → State → State
 shut d s =
     setRegs (λ c v. cond (eqb (s .regs c v) (suc d)) 0 (s .regs c v)) (setSlots (λ e i. s .slots e i && not (eqb e d))
-      (setDev (λ e. cond (eqb e d) Shut (s .dev e)) (setUse (λ f. noTable d (mapLoan (homeFrom d) (s .what f))) s)))
+    (setDev (λ e. cond (eqb e d) Shut (s .dev e)) (setUse (λ f. noTable d (mapLoan (homeFrom d) (s .what f))) s)))
 
 unfoldable pub closing : Dev → Dev
 closing Shut = Shut
@@ -269,16 +269,16 @@ acts f s c (Close d) = cond (isIn d (s .drained)) (out Done (shut d s)) (out Lat
 acts f s c (Regs d v) = out Done (setRegs (λ w u. cond (eqb w c && eqb u v) (suc d) (s .regs w u)) s)
 acts f s c (Lend v d p w) =
     cond (s .slots d (p / 512))
-      (out Done (setUse (useAt (frameOf s c v) (Of c v (Lent d p w)) (s .what)) s))
-      (out Done (setSlots (λ e i. s .slots e i || (eqb e d && eqb i (p / 512))) (setUse (useAt f (TableOf d) (useAt (frameOf s c v) (Of c v (Lent d p w)) (s .what))) s)))
+    (out Done (setUse (useAt (frameOf s c v) (Of c v (Lent d p w)) (s .what)) s))
+    (out Done (setSlots (λ e i. s .slots e i || (eqb e d && eqb i (p / 512))) (setUse (useAt f (TableOf d) (useAt (frameOf s c v) (Of c v (Lent d p w)) (s .what))) s)))
 acts f s c (Recall v) =
     cond (isIn (deviceOf (loan s c v)) (s .drained))
-      (out Done (setUse (useAt (frameOf s c v) (Of c v Home) (s .what)) s))
-      (out Later (setUse (useAt (frameOf s c v) (Of c v (leaving (loan s c v))) (s .what)) s))
+    (out Done (setUse (useAt (frameOf s c v) (Of c v Home) (s .what)) s))
+    (out Later (setUse (useAt (frameOf s c v) (Of c v (leaving (loan s c v))) (s .what)) s))
 acts f s c (End w) =
     cond (allDrained (s .devices) w s)
-      (out Done (setUse (λ g. notOf w (shutAll (s .devices) w s .what g)) (shutAll (s .devices) w s)))
-      (out Later (shutAll (s .devices) w s))
+    (out Done (setUse (λ g. notOf w (shutAll (s .devices) w s .what g)) (shutAll (s .devices) w s)))
+    (out Later (shutAll (s .devices) w s))
 
 -- does it take a frame
 unfoldable pub takesFrame : State → Call → Bool
@@ -368,7 +368,7 @@ pub data Run (can : Call → Bool) (start : State) : List Event → State → No
   -- inside, not seen
   loosened : {es : List Event} {s : State} {c : ℕ} {k : Call} → Run can start es s (Under c k) → T (can k) → why s c k ≡ 0 → Run can start es (loosens s c k) (Under c k)
   acted : {es : List Event} {s : State} {c : ℕ} {k : Call} (f : ℕ) → Run can start es s (Under c k) → T (can k) → why s c k ≡ 0 → T (not (takesFrame s k) || idle s f) → T (excused s c k) →
-    Run can start es (acts f s c k .state) (Over c k (acts f s c k .answer))
+      Run can start es (acts f s c k .state) (Over c k (acts f s c k .answer))
   refused : {es : List Event} {s : State} {c : ℕ} {k : Call} → Run can start es s (Under c k) → T (can k) → 0 < why s c k → Run can start es s (Over c k (No (why s c k)))
   notBuilt : {es : List Event} {s : State} {c : ℕ} {k : Call} → Run can start es s (Under c k) → T (not (can k)) → Run can start es s (Over c k (No 9))
   tells : {es : List Event} {s : State} {c : ℕ} {k : Call} {a : Answer} → Run can start es s (Over c k a) → T (mayTell s c k a) → Run can start (Told c k a ∷ es) s Quiet
@@ -380,7 +380,7 @@ pub data Run (can : Call → Bool) (start : State) : List Event → State → No
   -- what devices do: only where they may
   took : {es : List Event} {s : State} {n : Now} (d p f k : ℕ) → Run can start es s n → f < s .frames → T (reaches d p false (loanOf (s .what f))) → Run can start (TookFrom d p f k (s .word f k) ∷ es) s n
   puts : {es : List Event} {s : State} {n : Now} (d p f k x : ℕ) → Run can start es s n → f < s .frames → T (reaches d p true (loanOf (s .what f))) →
-    Run can start (PutInto d p f k x ∷ es) (setWord (λ e j. cond (eqb e f && eqb j k) x (s .word e j)) s) n
+      Run can start (PutInto d p f k x ∷ es) (setWord (λ e j. cond (eqb e f && eqb j k) x (s .word e j)) s) n
   misses : {es : List Event} {s : State} {n : Now} (d p : ℕ) (w : Bool) → Run can start es s n → T (not (any (s .frames) (λ (f : ℕ). isLent d p w (loanOf (s .what f))))) → Run can start (Missed d p w ∷ es) s n
   drains : {es : List Event} {s : State} {n : Now} (d : ℕ) (b : Bool) → Run can start es s n → Run can start (Drained d b ∷ es) (toldDrain d b s) n
 

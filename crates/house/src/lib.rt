@@ -12,32 +12,64 @@ ghost use Rattle.house.specs.Promise.{can, roomOf, startOf, OnePlace, LentByDr
 // v: a place in one's own space, 1,024 of them; d: a device; p: a page of what a device sees, 262,144 of them.
 #[derive(Clone, Copy)]
 pub enum Call {
-    Get { v: u32 },
-    Free { v: u32 },
-    Give { v: u32, to: u32, at: u32 },
-    Open { d: u32 },
-    Close { d: u32 },
-    Regs { d: u32, v: u32 },
-    Lend { v: u32, d: u32, p: u32, writes: bool },
-    Recall { v: u32 },
-    End { who: u32 },
+    Get {
+        v: u32,
+    },
+    Free {
+        v: u32,
+    },
+    Give {
+        v: u32,
+        to: u32,
+        at: u32,
+    },
+    Open {
+        d: u32,
+    },
+    Close {
+        d: u32,
+    },
+    Regs {
+        d: u32,
+        v: u32,
+    },
+    Lend {
+        v: u32,
+        d: u32,
+        p: u32,
+        writes: bool,
+    },
+    Recall {
+        v: u32,
+    },
+    End {
+        who: u32,
+    },
 }
 
 #[derive(Clone, Copy)]
-pub enum Answer { Done, Later, No(u32) }
+pub enum Answer {
+    Done,
+    Later,
+    No(u32),
+}
 
 // What the house may ask: memory, the unit through which devices reach it, what programs are shown.
 // In each call devices and the unit take any steps of theirs.
 pub trait Machine {
     ghost hw: { Self → Hw };
+
     ghost seen: { Self → List Event };
 
     fn frames(&self) -> u32
         ensures { λ r. ⌜ r ≡ hw (now (self .entry)) .frames ⌝ };
+
     fn devices(&self) -> u32
         ensures { λ r. ⌜ r ≡ hw (now (self .entry)) .devices ⌝ };
+
     fn group(&self, d: u32) -> u32
         ensures { λ r. ⌜ r ≡ hw (now (self .entry)) .group d ⌝ };
+
     fn driver(&self, d: u32) -> u32
         ensures { λ r. ⌜ r ≡ hw (now (self .entry)) .driver d ⌝ };
 
@@ -45,6 +77,7 @@ pub trait Machine {
     fn put(&mut self, frame: u32, word: u32, x: u64)
         requires { ⌜ 0 < hw (now self) .left ⌝ ∗ ⌜ frame < hw (now self) .frames ⌝ ∗ ⌜ word < 512 ⌝ }
         ensures { λ _. ⌜ Steps (counted (withMem (put frame word x (hw (now (self .entry)) .mem)) (hw (now (self .entry))))) (seen (now (self .entry))) (hw (now (self .exit))) (seen (now (self .exit))) ⌝ };
+
     fn get(&mut self, frame: u32, word: u32) -> u64
         requires { ⌜ 0 < hw (now self) .left ⌝ ∗ ⌜ frame < hw (now self) .frames ⌝ ∗ ⌜ word < 512 ⌝ }
         ensures { λ r. ⌜ r ≡ hw (now (self .entry)) .mem frame word ⌝ ∗ ⌜ Steps (counted (hw (now (self .entry)))) (seen (now (self .entry))) (hw (now (self .exit))) (seen (now (self .exit))) ⌝ };
@@ -53,9 +86,11 @@ pub trait Machine {
     fn show(&mut self, who: u32, v: u32, frame: u32)
         requires { ⌜ 0 < hw (now self) .left ⌝ ∗ ⌜ who < 32 ⌝ ∗ ⌜ v < 1024 ⌝ ∗ ⌜ frame < hw (now self) .frames ⌝ }
         ensures { λ _. ⌜ Steps (counted (shows who v (Frame frame) (hw (now (self .entry))))) (seen (now (self .entry))) (hw (now (self .exit))) (seen (now (self .exit))) ⌝ };
+
     fn show_registers(&mut self, who: u32, v: u32, d: u32)
         requires { ⌜ 0 < hw (now self) .left ⌝ ∗ ⌜ who < 32 ⌝ ∗ ⌜ v < 1024 ⌝ ∗ ⌜ d < hw (now self) .devices ⌝ }
         ensures { λ _. ⌜ Steps (counted (shows who v (Registers d) (hw (now (self .entry))))) (seen (now (self .entry))) (hw (now (self .exit))) (seen (now (self .exit))) ⌝ };
+
     fn hide(&mut self, who: u32, v: u32)
         requires { ⌜ 0 < hw (now self) .left ⌝ ∗ ⌜ who < 32 ⌝ ∗ ⌜ v < 1024 ⌝ }
         ensures { λ _. ⌜ Steps (counted (shows who v Nothing (hw (now (self .entry))))) (seen (now (self .entry))) (hw (now (self .exit))) (seen (now (self .exit))) ⌝ };
@@ -83,7 +118,9 @@ pub trait World: Machine {
 
 // YOURS: what the house keeps beside the room.
 #[derive(Drop)]
-pub struct Keeper { pub frames: u32 }
+pub struct Keeper {
+    pub frames: u32,
+}
 
 // YOURS. It sets up the tables, and starts the unit.
 pub fn boot<M: Machine>(w: &mut M, room: &mut [u64]) -> Keeper
@@ -105,57 +142,9 @@ impl Keeper {
     }
 }
 
-// THE MAIN PROMISE. Whatever programs ask and do, and whatever devices do.
-pub fn rounds<W: Machine + World>(w: &mut W, room: &mut [u64], turns: u64)
-    requires starts { ⌜ AtStart (hw (now w)) ⌝ }
-    requires unseen { ⌜ seen (now w) ≡ [] ⌝ }
-    requires lent { ⌜ roomOf (hw (now w) .frames) ≤ length (now room) ⌝ }
-{
-    let mut k = boot(w, room);
-    let mut t: u64 = 0;
-    while t < turns {
-        t += 1;
-        match w.next() {
-            Some((who, c)) => {
-                let a = k.serve(w, room, who, c);
-                w.told(who, c, a);
-            }
-            None => {
-                return;
-            }
-        }
-    }
-}
-
 // The house's own value is small; what is large is lent.
 pub fn keeper_is_small() -> bool
     ensures { λ r. ⌜ T r ⌝ }
 {
     std::mem::size_of::<Keeper>() <= 4096
-}
-
-// What the first landings build is never taken back.
-pub fn core_built() -> u8
-    ensures { λ _. ⌜ CoreBuilt ⌝ }
-{
-    0
-}
-
-// What is promised beside, each a theorem that a contract names.
-pub fn one_place() -> u8
-    ensures { λ _. ⌜ OnePlace ⌝ }
-{
-    0
-}
-
-pub fn lent_by_driver() -> u8
-    ensures { λ _. ⌜ LentByDriver ⌝ }
-{
-    0
-}
-
-pub fn home_is_quiet() -> u8
-    ensures { λ _. ⌜ HomeIsQuiet ⌝ ∗ ⌜ NewIsNoughts ⌝ }
-{
-    0
 }
