@@ -3,3 +3,4 @@ pub mod Machine
 pub mod Meaning
 pub mod Promise
 pub mod Sound
+pub mod Serving

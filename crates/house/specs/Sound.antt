@@ -4,14 +4,14 @@
 -- Assumes nothing.
 use mathlib.Core.Path.{_≡_}
 use mathlib.Core.Logic.{_⊎_}
-use mathlib.Core.Bool.{Bool, true, false, cond, not}
+use mathlib.Core.Bool.{Bool, true, false, cond, _||_, not}
 use mathlib.Core.List.{List, [], _∷_, List·Memᴰ}
 use Prim.Native.Nat.{ℕ, zero, suc, _+_, _-_, _*_, _/_, _%_, _<_, _≤_}
-use lib.Dec.{T}
+use lib.Dec.{T, eqb}
 use Rattle.house.specs.declared.Call.{Call}
 use Rattle.house.specs.Event.{Event}
 use Rattle.house.specs.Machine.{Shown, Nothing, Frame, Registers, Hw, Up, Mid, Leaf, frameIn, mayWrite, Forgotten}
-use Rattle.house.specs.Meaning.{Loan, Home, Lent, Leaving, Use, House, TableOf, Idle, Of, Dev, State, isOf, loanOf, isHome, reaches, isShut, has, frameOf, taken, setWord, Now, Quiet, Run}
+use Rattle.house.specs.Meaning.{Loan, Home, Lent, Leaving, Use, House, TableOf, Idle, Of, Dev, State, isOf, loanOf, isHome, reaches, isShut, any, first, setWord, Now, Quiet, Run}
 
 -- where the keeper put the page tables: the upper one of a device, and the lower one of each of its slots
 pub record Tables : Type 0 where
@@ -84,11 +84,14 @@ abbrev pub Words : View → (ℕ → ℕ → ℕ) → (ℕ → ℕ → ℕ) → 
 Words v word mem = (f c u k : ℕ) (l : Loan) → f < v .frames → v .what f ≡ Of c u l → k < 512 → word f k ≡ mem f k
 
 -- the machine's shape, which nothing changes
-pub record Shape (s : State) (h : Hw) : Type 0 where
-  pub frames : s .frames ≡ h .frames
-  pub devices : s .devices ≡ h .devices
-  pub group : s .group ≡ h .group
-  pub driver : s .driver ≡ h .driver
+pub record Shaped (frames devices : ℕ) (group driver : ℕ → ℕ) (framesH devicesH : ℕ) (groupH driverH : ℕ → ℕ) : Type 0 where
+  pub framesAre : frames ≡ framesH
+  pub devicesAre : devices ≡ devicesH
+  pub groupIs : group ≡ groupH
+  pub driverIs : driver ≡ driverH
+
+abbrev pub Shape : State → Hw → Type 0
+Shape s h = Shaped (s .frames) (s .devices) (s .group) (s .driver) (h .frames) (h .devices) (h .group) (h .driver)
 
 -- what no step of devices or of the unit changes
 pub record Same (h j : Hw) : Type 0 where
@@ -108,10 +111,13 @@ isPage Idle = false
 isPage (Of c v l) = true
 
 -- what a place of a program's space shows is what the meaning has there
-unfoldable pub ShowsRight : State → ℕ → ℕ → Shown → Type 0
-ShowsRight s c v Nothing = T (not (taken s c v))
-ShowsRight s c v (Frame f) = T (has s c v) × (frameOf s c v ≡ f) × (f < s .frames) × T (isOf c v (s .what f))
-ShowsRight s c v (Registers d) = s .regs c v ≡ suc d
+unfoldable pub ShowsIn : ℕ → (ℕ → Use) → (ℕ → ℕ → ℕ) → ℕ → ℕ → Shown → Type 0
+ShowsIn n what regs c v Nothing = T (not (any n (λ (f : ℕ). isOf c v (what f)) || not (eqb (regs c v) 0)))
+ShowsIn n what regs c v (Frame f) = T (any n (λ (g : ℕ). isOf c v (what g))) × (first n (λ (g : ℕ). isOf c v (what g)) ≡ f) × (f < n) × T (isOf c v (what f))
+ShowsIn n what regs c v (Registers d) = regs c v ≡ suc d
+
+abbrev pub ShowsRight : State → ℕ → ℕ → Shown → Type 0
+ShowsRight s c v x = ShowsIn (s .frames) (s .what) (s .regs) c v x
 
 abbrev pub ShownAt : State → (ℕ → ℕ → Shown) → Type 0
 ShownAt s space = (c v : ℕ) → c < 32 → v < 1024 → ShowsRight s c v (space c v)
