@@ -1,1 +1,4 @@
+pub mod Counting
+pub mod Known
 pub mod Memory
+pub mod Steps

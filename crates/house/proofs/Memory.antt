@@ -1,14 +1,15 @@
--- Memory that agrees in frame 0 and in tables is as sound.
+-- Memory that agrees in frame 0 and in tables is as sound; a word put into somebody's page leaves it so.
 -- Assumes nothing.
-use mathlib.Core.Path.{_≡_, refl, sym, _∙_, subst, subst⁻¹}
+use mathlib.Core.Path.{_≡_, refl, sym, _∙_, ap, subst, subst⁻¹}
 use mathlib.Core.Logic.{_⊎_, inl, inr}
-use mathlib.Core.Bool.{Bool, true, false, cond, not}
+use mathlib.Core.Bool.{Bool, true, false, cond, _&&_, not}
 use mathlib.Core.List.{List}
 use Prim.Native.Nat.{ℕ, suc, _+_, _*_, _/_, _%_, _<_}
-use lib.Dec.{T}
-use Rattle.house.specs.Machine.{Up, Mid, Leaf}
+use lib.Dec.{T, T-not, eqb, eqb→eq}
+use Rattle.house.specs.Machine.{Up, Mid, Leaf, put}
 use Rattle.house.specs.Meaning.{Use, House, TableOf, Idle, Of, Lent, isIdle, isShut}
-use Rattle.house.specs.Sound.{Tables, View, Held, Good, Mapped, Sound, isPage}
+use Rattle.house.specs.Sound.{Tables, View, Held, Good, Mapped, Sound, Words, isPage}
+use Rattle.house.proofs.Counting.{is-false}
 
 -- the house's own, or a table
 abbrev pub Firm : Use → Type 0
@@ -65,3 +66,18 @@ module _ {t : Tables} {v : View} {mem : ℕ → ℕ → ℕ} {live : Bool} {ups 
         flyingGood = s .flyingGood;
         lent = lent-keeps;
       }
+
+pub put-else : (f k x : ℕ) (m : ℕ → ℕ → ℕ) (g j : ℕ) → (g ≡ f → ⊥) → put f k x m g j ≡ m g j
+put-else f k x m g j h = ap (λ (b : Bool). cond (b && eqb j k) x (m g j)) (is-false (eqb g f) (λ (q : T (eqb g f)). h (eqb→eq g f q)))
+
+-- the same word put on both sides
+pub words-put : (v : View) (word mem : ℕ → ℕ → ℕ) (f k x : ℕ) → Words v word mem → Words v (put f k x word) (put f k x mem)
+words-put v word mem f k x w g c u j l a e b = ap (λ (y : ℕ). cond (eqb g f && eqb j k) x y) (w g c u j l a e b)
+
+pub other-frame : (v : View) (f g : ℕ) → T (isPage (v .what f)) → T (not (isPage (v .what g))) → g ≡ f → ⊥
+other-frame v f g p q e = T-not (isPage (v .what g)) q (subst⁻¹ (λ (x : ℕ). T (isPage (v .what x))) e p)
+
+pub put-keeps :
+    {t : Tables} {v : View} {mem : ℕ → ℕ → ℕ} {live : Bool} {ups : List Up} {mids : List Mid} {leaves flying : List Leaf} (f k x : ℕ) → T (isPage (v .what f)) →
+    Sound t v mem live ups mids leaves flying → Sound t v (put f k x mem) live ups mids leaves flying
+put-keeps {t} {v} {mem} f k x p s = mem-keeps (put f k x mem) s (λ g j a b. put-else f k x mem g j (other-frame v f g p a))
