@@ -10,8 +10,8 @@ use lib.Dec.{T, T-not, eqb, eqb→eq}
 use Rattle.house.specs.declared.Call.{Call}
 use Rattle.house.specs.Event.{Event, TookFrom, PutInto, Missed, Drained}
 use Rattle.house.specs.Machine.{Up, Mid, Leaf, Hw, Step, Steps, Drains, Forgotten, known, counted, withMem, put, frameIn, mayWrite, walked, upper, lower, dropOne}
-use Rattle.house.specs.Meaning.{Loan, Home, Lent, Leaving, Use, House, TableOf, Idle, Of, State, Now, Run, loanOf, isHome, isLent, isShut, reaches, setWord, toldDrain}
-use Rattle.house.specs.Sound.{Tables, View, viewOf, Held, Good, Mapped, Sound, SoundAt, Words, Shape, Same, Steady, entryOf, isPage}
+use Rattle.house.specs.Meaning.{Loan, Home, Lent, Leaving, Use, House, TableOf, Idle, Of, State, Now, Run, loanOf, isHome, isLent, isShut, reaches, setWord, setDrains, toldDrain}
+use Rattle.house.specs.Sound.{Tables, View, viewOf, Held, Good, Mapped, Sound, SoundAt, Words, Shape, Shaped, Same, Steady, entryOf, isPage}
 use Rattle.house.proofs.Counting.{is-true, both, eq-test, none-any}
 use Rattle.house.proofs.Known.{all-cons, drop-in, noUp-cons, noUp-drop, noUp-not, noMid-cons, noMid-drop, noMid-not, noLeaf-cons, noLeaf-drop, noLeaf-not}
 use Rattle.house.proofs.Memory.{put-else, words-put, put-keeps}
@@ -277,3 +277,84 @@ step-keeps {can = can} {start = start} {t = t} {s = s} {n = n} {h = h} {es = es}
     put-in can start t s n es h (l .dev) (l .page) (frameIn (l .entry)) k x sound words run (good .frame) (good .writes w)
 step-keeps {t = t} {s = s} {h = h} sound words shape run (Step.misses _ d p w a b c) =
     still h sound words (Run.misses d p w run (none-any (s .frames) (λ (f : ℕ). isLent d p w (loanOf (s .what f))) (missed-not-lent t (viewOf s) h d p w sound c)))
+
+-- one after the other
+pub steady-then :
+    {can : Call → Bool} {start : State} {t : Tables} {s : State} {n : Now} {h i j : Hw} {fs gs : List Event} →
+    s .what 0 ≡ House → (a : Steady can start t s n h i fs) → Steady can start t (setWord (a .word) s) n i j gs → Steady can start t s n h j gs
+steady-then {s = s} house a b =
+    record {
+      word = b .word;
+      run = b .run;
+      sound = b .sound;
+      words = b .words;
+      same = same-then (a .same) (b .same);
+      quiet = λ f k q. (b .quiet f k q .0 ∙ a .quiet f k q .0, b .quiet f k q .1 ∙ a .quiet f k q .1);
+      forgets = λ d z g. b .forgets d (a .quiet 0 d (house-home (s .what 0) house) .0 ∙ z) (a .forgets d z g);
+    }
+
+pub shape-same : {n m : ℕ} {g d : ℕ → ℕ} {h j : Hw} → Shaped n m g d (h .frames) (h .devices) (h .group) (h .driver) → Same h j → Shaped n m g d (j .frames) (j .devices) (j .group) (j .driver)
+shape-same p q = record { framesAre = p .framesAre ∙ sym (q .frames); devicesAre = p .devicesAre ∙ sym (q .devices); groupIs = p .groupIs ∙ sym (q .group); driverIs = p .driverIs ∙ sym (q .driver) }
+
+pub steps-keep :
+    {can : Call → Bool} {start : State} {t : Tables} {s : State} {n : Now} {h : Hw} {es : List Event} {j : Hw} {gs : List Event} →
+    SoundAt t (viewOf s) h → Words (viewOf s) (s .word) (h .mem) → Shape s h → Run can start es s n → Steps h es j gs → Steady can start t s n h j gs
+steps-keep sound words shape run (Steps.none h es) = still h sound words run
+steps-keep {s = s} sound words shape run (Steps.more {h} {i} {j} {es} {fs} {gs} st rest) =
+    let a = step-keeps sound words shape run st in
+    steady-then (sound .house) a (steps-keep {s = setWord (a .word) s} (a .sound) (a .words) (shape-same shape (a .same)) (a .run) rest)
+
+-- ASKED TO FORGET
+-- steps, the moment at which it is said, and steps again
+pub record Split (d : ℕ) (h : Hw) (es : List Event) (b : Bool) (j : Hw) (gs : List Event) : Type 0 where
+  pub mid : Hw
+  pub events : List Event
+  pub before : Steps h es mid events
+  pub forgot : T b → Forgotten d mid
+  pub after : Steps (counted mid) (Drained d b ∷ events) j gs
+
+pub drain-split : {d : ℕ} {h : Hw} {es : List Event} {b : Bool} {j : Hw} {gs : List Event} → Drains d h es b j gs → Split d h es b j gs
+drain-split (Drains.yes' {i} {j} {fs} {gs} a f c) = record { mid = i; events = fs; before = a; forgot = λ x. f; after = c }
+drain-split (Drains.notYet {i} {j} {fs} {gs} a c) = record { mid = i; events = fs; before = a; forgot = λ x. absurd x; after = c }
+
+pub drained : {can : Call → Bool} {start : State} {s : State} {n : Now} {es : List Event} (d : ℕ) (b : Bool) → Run can start es s n → Run can start (Drained d b ∷ es) (toldDrain d b s) n
+drained d b run = Run.drains d b run
+
+-- the answer noted between what came before and what comes after
+told-then :
+    {can : Call → Bool} {start : State} {t : Tables} {s : State} {n : Now} {h i j : Hw} {fs gs : List Event} (x y : List ℕ) (e : Event) → s .what 0 ≡ House → (a : Steady can start t s n h i fs) →
+    Run can start (e ∷ fs) (setDrains x y (setWord (a .word) s)) n → Steady can start t (setDrains x y (setWord (a .word) s)) n (counted i) j gs → Steady can start t (setDrains x y s) n (counted h) j gs
+told-then {can} {start} {t} {s} {n} {h} {i} {j} {fs} {gs} x y e house a run b = steady-then {s = setDrains x y s} house noted b
+  where
+    noted : Steady can start t (setDrains x y s) n (counted h) (counted i) (e ∷ fs)
+    noted =
+        record {
+          word = a .word;
+          run = run;
+          sound = a .sound;
+          words = a .words;
+          quiet = a .quiet;
+          forgets = a .forgets;
+          same =
+              record {
+                frames = a .same .frames;
+                devices = a .same .devices;
+                group = a .same .group;
+                driver = a .same .driver;
+                space = a .same .space;
+                live = a .same .live;
+                left = ap (λ (z : ℕ). z - 1) (a .same .left);
+              };
+        }
+
+pub drain-keeps :
+    {can : Call → Bool} {start : State} {t : Tables} {s : State} {n : Now} {d : ℕ} {h : Hw} {es : List Event} {b : Bool} {j : Hw} {gs : List Event} →
+    SoundAt t (viewOf s) h → Words (viewOf s) (s .word) (h .mem) → Shape s h → Run can start es s n → Drains d h es b j gs → Steady can start t (toldDrain d b s) n (counted h) j gs
+drain-keeps {s = s} {d = d} sound words shape run (Drains.yes' before f after) =
+    let a = steps-keep sound words shape run before in
+    let r = drained d true (a .run) in
+    told-then (d ∷ s .drained) (s .undrained) (Drained d true) (sound .house) a r (steps-keep {s = toldDrain d true (setWord (a .word) s)} (a .sound) (a .words) (shape-same shape (a .same)) r after)
+drain-keeps {s = s} {d = d} sound words shape run (Drains.notYet before after) =
+    let a = steps-keep sound words shape run before in
+    let r = drained d false (a .run) in
+    told-then (s .drained) (d ∷ s .undrained) (Drained d false) (sound .house) a r (steps-keep {s = toldDrain d false (setWord (a .word) s)} (a .sound) (a .words) (shape-same shape (a .same)) r after)
