@@ -1,4 +1,5 @@
 pub mod Counting
 pub mod Known
 pub mod Memory
+pub mod Programs
 pub mod Steps
