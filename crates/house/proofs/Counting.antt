@@ -1,11 +1,11 @@
 -- Tests as types, and a test that some number below a bound passes.
 -- Assumes nothing.
-use mathlib.Core.Path.{_≡_, refl, sym, subst}
+use mathlib.Core.Path.{_≡_, refl, subst}
 use mathlib.Core.Logic.{_⊎_, inl, inr}
-use mathlib.Core.Bool.{Bool, true, false, cond, _&&_, _||_, not}
+use mathlib.Core.Bool.{Bool, true, false, _&&_, _||_, not}
 use Prim.Native.Nat.{ℕ, zero, suc, _<_}
 use native.Mathlib.Omega.{arith}
-use lib.Dec.{T, eqb, eqb-refl, eqb→eq, not-T}
+use lib.Dec.{T, eqb, eqb-refl, not-T}
 use Rattle.house.specs.Meaning.{any}
 
 pub is-true : (b : Bool) → T b → b ≡ true

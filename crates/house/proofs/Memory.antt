@@ -1,13 +1,13 @@
 -- Memory that agrees in frame 0 and in tables is as sound; a word put into somebody's page leaves it so.
 -- Assumes nothing.
-use mathlib.Core.Path.{_≡_, refl, sym, _∙_, ap, subst, subst⁻¹}
-use mathlib.Core.Logic.{_⊎_, inl, inr}
-use mathlib.Core.Bool.{Bool, true, false, cond, _&&_, not}
+use mathlib.Core.Path.{_≡_, _∙_, ap, subst⁻¹}
+use mathlib.Core.Logic.{_⊎_}
+use mathlib.Core.Bool.{Bool, cond, _&&_, not}
 use mathlib.Core.List.{List}
 use Prim.Native.Nat.{ℕ, suc, _+_, _*_, _/_, _%_, _<_}
 use lib.Dec.{T, T-not, eqb, eqb→eq}
 use Rattle.house.specs.Machine.{Up, Mid, Leaf, put}
-use Rattle.house.specs.Meaning.{Use, House, TableOf, Idle, Of, Lent, isIdle, isShut}
+use Rattle.house.specs.Meaning.{Use, House, TableOf, Of, Lent, isIdle, isShut}
 use Rattle.house.specs.Sound.{Tables, View, Held, Good, Mapped, Sound, Words, isPage}
 use Rattle.house.proofs.Counting.{is-false}
 

@@ -1,16 +1,16 @@
 -- Programs that run keep the relation too: they reach their own pages only.
 -- Assumes nothing.
-use mathlib.Core.Path.{_≡_, refl, sym, _∙_, ap, subst, subst⁻¹}
-use mathlib.Core.Bool.{Bool, true, false, cond, _&&_, _||_, not}
-use mathlib.Core.List.{List, [], _∷_, _++_}
-use Prim.Native.Nat.{ℕ, suc, _<_}
-use lib.Dec.{T, eqb, eqb→eq}
+use mathlib.Core.Path.{_≡_, refl, _∙_, ap, subst, subst⁻¹}
+use mathlib.Core.Bool.{Bool, not}
+use mathlib.Core.List.{List, [], _∷_}
+use Prim.Native.Nat.{ℕ, _<_}
+use lib.Dec.{T}
 use Rattle.std.specs.declared.option.Option.the-variants.{Some, None}
 use Rattle.house.specs.declared.Call.{Call}
 use Rattle.house.specs.Event.{Event, Asked, Loaded, Stored, Faulted, Poked}
-use Rattle.house.specs.Machine.{Shown, Nothing, Frame, Registers, Hw, Step, Runs, Comes, withMem, allowed, put}
-use Rattle.house.specs.Meaning.{Loan, Use, House, TableOf, Idle, Of, State, Now, Quiet, Under, Run, isOf, frameOf, setWord, setDrains}
-use Rattle.house.specs.Sound.{Tables, View, viewOf, Sound, SoundAt, Words, Shape, Same, Steady, Ran, ShownAt, ShowsRight, ShowsIn, isPage}
+use Rattle.house.specs.Machine.{Shown, Nothing, Frame, Registers, Hw, Runs, Comes, withMem, allowed, put}
+use Rattle.house.specs.Meaning.{Loan, Use, House, TableOf, Idle, Of, State, Quiet, Under, Run, isOf, setWord, setDrains}
+use Rattle.house.specs.Sound.{Tables, viewOf, SoundAt, Words, Shape, Same, Steady, Ran, ShownAt, ShowsRight, ShowsIn, isPage}
 use Rattle.house.proofs.Memory.{put-else, words-put, other-frame, put-keeps}
 use Rattle.house.proofs.Steps.{same-none, same-then, same-mem, step-same, shape-same, step-keeps, no-page-home}
 

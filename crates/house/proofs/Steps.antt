@@ -3,12 +3,12 @@
 use mathlib.Core.Path.{_≡_, refl, sym, _∙_, ap, subst, subst⁻¹}
 use mathlib.Core.Logic.{_⊎_, inl, inr}
 use mathlib.Core.Bool.{Bool, true, false, cond, _&&_, _||_, not}
-use mathlib.Core.List.{List, [], _∷_, _++_, List·Memᴰ}
-use Prim.Native.Nat.{ℕ, zero, suc, _+_, _-_, _*_, _/_, _%_, _<_}
+use mathlib.Core.List.{List, _∷_, _++_, List·Memᴰ}
+use Prim.Native.Nat.{ℕ, suc, _+_, _-_, _*_, _/_, _%_, _<_}
 use native.Mathlib.Omega.{arith}
 use lib.Dec.{T, T-not, eqb, eqb→eq}
 use Rattle.house.specs.declared.Call.{Call}
-use Rattle.house.specs.Event.{Event, TookFrom, PutInto, Missed, Drained}
+use Rattle.house.specs.Event.{Event, TookFrom, PutInto, Drained}
 use Rattle.house.specs.Machine.{Up, Mid, Leaf, Hw, Step, Steps, Drains, Forgotten, known, counted, withMem, put, frameIn, mayWrite, walked, upper, lower, dropOne}
 use Rattle.house.specs.Meaning.{Loan, Home, Lent, Leaving, Use, House, TableOf, Idle, Of, State, Now, Run, loanOf, isHome, isLent, isShut, reaches, setWord, setDrains, toldDrain}
 use Rattle.house.specs.Sound.{Tables, View, viewOf, Held, Good, Mapped, Sound, SoundAt, Words, Shape, Shaped, Same, Steady, entryOf, isPage}
