@@ -1,1 +1,6 @@
 pub mod Between
+pub mod Counting
+pub mod Known
+pub mod Memory
+pub mod Programs
+pub mod Steps

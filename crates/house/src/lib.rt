@@ -14,32 +14,64 @@ ghost use Rattle.house.specs.Serving.{Keeps, Begins};
 // space, below 262,144; to, who: programs.
 #[derive(Clone, Copy)]
 pub enum Call {
-    Get { v: u32 },
-    Free { v: u32 },
-    Give { v: u32, to: u32, at: u32 },
-    Open { d: u32 },
-    Close { d: u32 },
-    Regs { d: u32, v: u32 },
-    Lend { v: u32, d: u32, p: u32, writes: bool },
-    Recall { v: u32 },
-    End { who: u32 },
+    Get {
+        v: u32,
+    },
+    Free {
+        v: u32,
+    },
+    Give {
+        v: u32,
+        to: u32,
+        at: u32,
+    },
+    Open {
+        d: u32,
+    },
+    Close {
+        d: u32,
+    },
+    Regs {
+        d: u32,
+        v: u32,
+    },
+    Lend {
+        v: u32,
+        d: u32,
+        p: u32,
+        writes: bool,
+    },
+    Recall {
+        v: u32,
+    },
+    End {
+        who: u32,
+    },
 }
 
 #[derive(Clone, Copy)]
-pub enum Answer { Done, Later, No(u32) }
+pub enum Answer {
+    Done,
+    Later,
+    No(u32),
+}
 
 // All that the keeper can reach: memory, what address spaces show, and the IOMMU. While one of these runs, devices and the IOMMU
 // take any number of steps of their own.
 pub trait Machine {
     ghost hw: { Self → Hw };
+
     ghost seen: { Self → List Event };
 
     fn frames(&self) -> u32
         ensures { λ r. ⌜ r ≡ hw (now (self .entry)) .frames ⌝ };
+
     fn devices(&self) -> u32
         ensures { λ r. ⌜ r ≡ hw (now (self .entry)) .devices ⌝ };
+
     fn group(&self, d: u32) -> u32
         ensures { λ r. ⌜ r ≡ hw (now (self .entry)) .group d ⌝ };
+
     fn driver(&self, d: u32) -> u32
         ensures { λ r. ⌜ r ≡ hw (now (self .entry)) .driver d ⌝ };
 
