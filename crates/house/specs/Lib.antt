@@ -4,3 +4,4 @@ pub mod Meaning
 pub mod Promise
 pub mod Sound
 pub mod Serving
+pub mod Kept
