@@ -60,7 +60,7 @@ module _ (r : List ℕ) (f lo hi : ℕ) (fits : 65537 + 2 * f < length r) where
   abbrev after : List ℕ
   after = set (set r (65536 + 2 * f) lo) (65536 + 2 * f + 1) hi
 
-  record-kept : (j : ℕ) → j ≢ 65536 + 2 * f → j ≢ 65536 + 2 * f + 1 → getD after j 0 ≡ getD r j 0
+  pub record-kept : (j : ℕ) → j ≢ 65536 + 2 * f → j ≢ 65536 + 2 * f + 1 → getD after j 0 ≡ getD r j 0
   record-kept j a b = getD-set-other _ (65536 + 2 * f + 1) j hi 0 (λ e. b (omega arith)) ∙ getD-set-other r (65536 + 2 * f) j lo 0 a
 
   record-low : getD after (65536 + 2 * f) 0 ≡ lo
@@ -69,7 +69,7 @@ module _ (r : List ℕ) (f lo hi : ℕ) (fits : 65537 + 2 * f < length r) where
   record-high : getD after (65536 + 2 * f + 1) 0 ≡ hi
   record-high = let l : 65536 + 2 * f + 1 < length (set r (65536 + 2 * f) lo) = simp length-set (omega arith) in getD-set-same (set r (65536 + 2 * f) lo) (65536 + 2 * f + 1) hi 0 l
 
-  record-at : (g : ℕ) → useOf after g ≡ cond (eqb g f) (useFrom lo hi) (useOf r g)
+  pub record-at : (g : ℕ) → useOf after g ≡ cond (eqb g f) (useFrom lo hi) (useOf r g)
   unfolding useOf
   record-at g =
       ⊎-elim (λ e. rw (eq-eqb g f e, e, record-low, record-high))

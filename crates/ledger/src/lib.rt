@@ -4,6 +4,8 @@ pub mod frames;
 pub mod layout;
 pub mod places;
 pub mod record;
+pub mod searches;
+pub mod setup;
 pub mod slots;
 
 // A page that is somebody's is with its owner, lent to a device, or on its way back from one.
