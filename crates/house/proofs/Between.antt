@@ -19,80 +19,15 @@ use Rattle.house.specs.Meaning
 use Rattle.house.specs.Meaning.{State, Use, House, Idle, TableOf, Of, Loan, Lent, isOf, any, has, taken, Now, Quiet, Under, Over, Run, setDrains, setWord}
 use Rattle.house.specs.Promise.{can, roomOf, startOf}
 use Rattle.house.specs.Sound
-use Rattle.house.specs.Sound.{Tables, View, viewOf, Held, SoundAt, Sound, Words, Shape, ShownAt, ShowsIn, ShowsRight, Same, Mapped, isPage}
+use Rattle.house.specs.Sound.{Tables, View, viewOf, Held, SoundAt, Sound, Words, Shape, Shaped, ShownAt, ShowsIn, ShowsRight, Same, Mapped, isPage}
 use Rattle.house.specs.Kept.{Kept, tablesIn, shownMeant}
 use Rattle.house.specs.Serving.{Fits, Progress, nothingCut, Holds, Keeps, Begins}
 use Rattle.house.proofs.Rooms.{Inside, inside-room, shown-right}
 use Rattle.house.proofs.Steps.{steps-keep, no-page-home, house-home, shape-same}
 use Rattle.house.proofs.Programs.{comes-some, runs-keep}
 
--- no table is anywhere
-abbrev pub noTables : Tables
-noTables = record { top = λ d. 0; low = λ d i. 0 }
-
-use-start : (f : ℕ) (u : Use) → cond (ltb f 1) House Idle ≡ u → (u ≡ House) ⊎ (u ≡ Idle)
-use-start f u e = go (ltb f 1) e
-  where
-    go : (b : Bool) → cond b House Idle ≡ u → (u ≡ House) ⊎ (u ≡ Idle)
-    go true e2 = inl (sym e2)
-    go false e2 = inr (sym e2)
-
-never-page : (f c v : ℕ) (l : Loan) → cond (ltb f 1) House Idle ≡ Of c v l → ⊥
-never-page f c v l e = go (use-start f (Of c v l) e)
-  where
-    go : (Of c v l ≡ House) ⊎ (Of c v l ≡ Idle) → ⊥
-    go (inl p) = let z : _≡_ {A = ℕ} 0 1 = cc in omega arith
-    go (inr p) = let z : _≡_ {A = ℕ} 0 1 = cc in omega arith
-
-not-live : (b : Bool) → b ≡ false → T b → ⊥
-not-live b e x = subst (λ (z : Bool). T z) e x
-
-none-known : {A : Type 0} (a : A) (l : List A) → l ≡ [] → List·Memᴰ a l → ⊥
-none-known {A} a l e m = List·Memᴰ·not-nil (subst (λ (z : List A). List·Memᴰ a z) e m)
-
-pub sound-start : (h : Hw) → AtStart h → SoundAt noTables (viewOf (startOf h)) h
-unfolding Meaning.isShut
-sound-start h a = record {
-  house = refl;
-  root = λ l d lt. absurd (not-live (h .live) (a .8) l);
-  top = λ d held. absurd (held .1);
-  slot = λ d i held lt. absurd (held .1);
-  held = λ d i s. absurd s;
-  low = λ d i s. absurd s;
-  apart = λ d i s e. absurd s;
-  distinct = λ d i j s r e. absurd s;
-  entries = λ d i j s. absurd s;
-  upsGood = λ u m. absurd (none-known u (h .ups) (a .9) m);
-  midsGood = λ u m. absurd (none-known u (h .mids) (a .10) m);
-  leavesGood = λ u m. absurd (none-known u (h .leaves) (a .11) m);
-  flyingGood = λ u m. absurd (none-known u (h .flying) (a .12) m);
-  lent = λ f c u d p w lt e. absurd (never-page f c u (Lent d p w) e);
-}
-
-none-of : (n c v : ℕ) → any n (λ (f : ℕ). isOf c v (cond (ltb f 1) House Idle)) ≡ false
-unfolding any isOf
-none-of zero c v = refl
-none-of (suc n) c v = go (none-of n c v) (ltb n 1)
-  where
-    go : any n (λ (f : ℕ). isOf c v (cond (ltb f 1) House Idle)) ≡ false → (b : Bool) → (any n (λ (f : ℕ). isOf c v (cond (ltb f 1) House Idle)) || isOf c v (cond b House Idle)) ≡ false
-    go ih true = rw ih
-    go ih false = rw ih
-
-shown-start : (h : Hw) → AtStart h → ShownAt (startOf h) (h .space)
-unfolding ShowsIn
-shown-start h a c v x y = subst (λ (z : Shown). ShowsRight (startOf h) c v z) (sym (a .7 c v)) (rw (none-of (h .frames) c v) tt)
-
 pub start-same : (h i : Hw) → Same h i → startOf i ≡ startOf h
 start-same h i q = λ x. Meaning.atStart (q .frames x) (q .devices x) (q .group x) (q .driver x) 1
-
-pub fits-same : (h i : Hw) → Same h i → Fits h → Fits i
-fits-same h i q f = record {
-  least = rw (q .frames) (f .least);
-  most = rw (q .frames) (f .most);
-  few = rw (q .devices) (f .few);
-  groups = λ d. rw (q .group) (f .groups d);
-  drivers = λ d. rw (q .driver) (f .drivers d);
-}
 
 -- devices and the unit go on by themselves: all holds with the words that devices have written
 pub holds-steps : {v : ledger.View} {p : Progress} {n : Now} {h j : Hw} {es gs : List Event} → Holds v p n h es → Steps h es j gs → Holds v p n j gs
@@ -112,16 +47,33 @@ holds-steps {v} {p} {n} {h} {j} {es} {gs} a m =
       shown = λ c u x y. ap (λ (z : ℕ → ℕ → Shown). z c u) (q .same .space) ∙ a .shown c u x y;
       roots = λ d c e. root d ∙ a .roots d c e;
       severed = λ d t. root d ∙ a .severed d t;
-      forgot = λ d t i. q .forgets d (a .severed d t) (a .forgot d t i) }
+      forgot = λ d t i. q .forgets d (a .severed d t) (a .forgot d t i);
+    }
 
 house-no-page : (u : Use) → u ≡ House → T (not (isPage u))
 unfolding isPage
 house-no-page u e = subst (λ (x : Use). T (not (isPage x))) (sym e) tt
 
+-- two machines of one shape
+abbrev pub Alike : Hw → Hw → Type 0
+Alike j h = Shaped (j .frames) (j .devices) (j .group) (j .driver) (h .frames) (h .devices) (h .group) (h .driver)
+
+pub same-alike : {h j : Hw} → Same h j → Alike j h
+same-alike q = record { framesAre = q .frames; devicesAre = q .devices; groupIs = q .group; driverIs = q .driver }
+
+pub fits-alike : (h j : Hw) → Alike j h → Fits h → Fits j
+fits-alike h j q f = record {
+  least = rw (q .framesAre) (f .least);
+  most = rw (q .framesAre) (f .most);
+  few = rw (q .devicesAre) (f .few);
+  groups = λ d. rw (q .groupIs) (f .groups d);
+  drivers = λ d. rw (q .driverIs) (f .drivers d);
+}
+
 -- the machine's shape stays, so the room serves as before
-pub moved : {room : List ℕ} {n : Now} {h j : Hw} {gs : List Event} → Same h j → Fits h → Consistent (h .frames) room → (a b : List ℕ) → Holds (ledger.viewOf (h .frames) room) (nothingCut a b) n j gs → Keeps room n j gs
-moved {room} {n} {h} {j} {gs} q f t a b r =
-    record { fits = fits-same h j q f; tidy = rw (q .frames) t; yeses = a; noes = b; holds = subst (λ (z : ℕ). Holds (ledger.viewOf z room) (nothingCut a b) n j gs) (sym (q .frames)) r }
+pub moved : {room : List ℕ} {n : Now} (h : Hw) {j : Hw} {gs : List Event} → Alike j h → Fits h → Consistent (h .frames) room → (a b : List ℕ) → Holds (ledger.viewOf (h .frames) room) (nothingCut a b) n j gs → Keeps room n j gs
+moved {room} {n} h {j} {gs} q f t a b r =
+    record { fits = fits-alike h j q f; tidy = rw (q .framesAre) t; yeses = a; noes = b; holds = subst (λ (z : ℕ). Holds (ledger.viewOf z room) (nothingCut a b) n j gs) (sym (q .framesAre)) r }
 
 -- programs run: all holds with the words that they and devices have stored
 pub keeps-runs : {room : List ℕ} {h j : Hw} {es gs : List Event} → Keeps room Quiet h es → Runs h es j gs → Keeps room Quiet j gs
@@ -130,7 +82,7 @@ keeps-runs {room} {h} {j} {es} {gs} k m =
     let inside = subst (λ (z : ℕ). Inside z (ledger.viewOf (h .frames) room)) (sym (a .shape .framesAre)) (inside-room (h .frames) room) in
     let q = runs-keep (a .sound) (a .words) (a .shape) (shown-right (a .state) (k .tidy .coherent) (a .kept) inside (h .space) (a .shown)) (a .run) m in
     let root = λ (d : ℕ). q .quiet 0 d (house-no-page (a .state .what 0) (a .sound .house)) in
-    moved (q .same) (k .fits) (k .tidy) (k .yeses) (k .noes) (record {
+    moved h (same-alike (q .same)) (k .fits) (k .tidy) (k .yeses) (k .noes) (record {
       state = setWord (q .word) (a .state);
       run = subst (λ (z : State). Run can z gs (setWord (q .word) (a .state)) Quiet) (sym (start-same h j (q .same))) (q .run);
       shape = shape-same (a .shape) (q .same);
@@ -143,7 +95,8 @@ keeps-runs {room} {h} {j} {es} {gs} k m =
       shown = λ c u x y. ap (λ (z : ℕ → ℕ → Shown). z c u) (q .same .space) ∙ a .shown c u x y;
       roots = λ d c e. root d ∙ a .roots d c e;
       severed = λ d t. absurd t;
-      forgot = λ d t i. absurd t })
+      forgot = λ d t i. absurd t;
+    })
 
 -- a program makes a call
 pub begins-asked : {room : List ℕ} {i : Hw} {fs : List Event} (who : ℕ) (c : Call) → who < 32 → Keeps room Quiet i fs → Begins room who c (allowed 2048 i) (Asked who c ∷ fs)
@@ -166,7 +119,9 @@ begins-asked who c lt k =
         shown = a .shown;
         roots = a .roots;
         severed = λ d t. absurd t;
-        forgot = λ d t i. absurd t } }
+        forgot = λ d t i. absurd t;
+      };
+    }
 
 pub begins-comes : {room : List ℕ} {who : ℕ} {c : Call} {h j : Hw} {es gs : List Event} → Keeps room Quiet h es → Comes h es (Some (who, c)) j gs → (2048 ≤ j .left) × Begins room who c j gs
 begins-comes {room} {who} {c} {h} {j} {es} {gs} k m =
@@ -176,26 +131,28 @@ begins-comes {room} {who} {c} {h} {j} {es} {gs} k m =
 
 -- an answer is told, and the call is over
 pub keeps-told : {room : List ℕ} {who : ℕ} {c : Call} {a : Answer} {h : Hw} {es : List Event} {yes' noes : List ℕ} → Fits h → Consistent (h .frames) room →
-  (b : Holds (ledger.viewOf (h .frames) room) (nothingCut yes' noes) (Over who c a) h es) → T (Meaning.mayTell (b .state) who c a) → Keeps room Quiet h (Told who c a ∷ es)
+    (b : Holds (ledger.viewOf (h .frames) room) (nothingCut yes' noes) (Over who c a) h es) → T (Meaning.mayTell (b .state) who c a) → Keeps room Quiet h (Told who c a ∷ es)
 keeps-told {yes' = yes'} {noes = noes} f t b m = record {
-    fits = f;
-    tidy = t;
-    yeses = yes';
-    noes = noes;
-    holds = record {
-      state = b .state;
-      run = Meaning.tells (b .run) m;
-      shape = b .shape;
-      drainedAre = b .drainedAre;
-      undrainedAre = b .undrainedAre;
-      kept = b .kept;
-      sound = b .sound;
-      words = b .words;
-      live = b .live;
-      shown = b .shown;
-      roots = b .roots;
-      severed = b .severed;
-      forgot = b .forgot } }
+  fits = f;
+  tidy = t;
+  yeses = yes';
+  noes = noes;
+  holds = record {
+    state = b .state;
+    run = Meaning.tells (b .run) m;
+    shape = b .shape;
+    drainedAre = b .drainedAre;
+    undrainedAre = b .undrainedAre;
+    kept = b .kept;
+    sound = b .sound;
+    words = b .words;
+    live = b .live;
+    shown = b .shown;
+    roots = b .roots;
+    severed = b .severed;
+    forgot = b .forgot;
+  };
+}
 
 -- a refused call changes nothing
 pub keeps-refused : {room : List ℕ} {who : ℕ} {c : Call} {h : Hw} {es : List Event} (k : ℕ) (b : Begins room who c h es) → Run can (startOf h) es (b .holds .state) (Over who c (No k)) → Keeps room Quiet h (Told who c (No k) ∷ es)
@@ -215,7 +172,8 @@ keeps-refused k b r =
       shown = a .shown;
       roots = a .roots;
       severed = a .severed;
-      forgot = a .forgot }) tt
+      forgot = a .forgot;
+    }) tt
 
 pub keeps-unbuilt : {room : List ℕ} {who : ℕ} {c : Call} {h : Hw} {es : List Event} → T (not (can c)) → Begins room who c h es → Keeps room Quiet h (Told who c (No 9) ∷ es)
 keeps-unbuilt n b = keeps-refused 9 b (Meaning.notBuilt (b .holds .run) n)

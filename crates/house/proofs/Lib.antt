@@ -1,4 +1,6 @@
 pub mod Between
+pub mod Starting
+pub mod Clearing
 pub mod Counting
 pub mod Known
 pub mod Memory

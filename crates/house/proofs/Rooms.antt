@@ -53,10 +53,10 @@ module _ {v : ledger.View} (co : Coherent v) where
       go (used.TableOf d t) q = absurd (false≢true q)
       go used.Idle q = absurd (false≢true q)
       go (used.PageOf a b l) q =
-        let r = and-parts (eqb a c) (eqb b u) q in
-        let x = eqb-true a c (r .0) in
-        let y = eqb-true b u (r .1) in
-        (l, cc)
+          let r = and-parts (eqb a c) (eqb b u) q in
+          let x = eqb-true a c (r .0) in
+          let y = eqb-true b u (r .1) in
+          (l, cc)
 
   pub page-shown : (c u f : ℕ) (l : loans.Loan) → v .used f ≡ used.PageOf c u l → v .place c u ≡ place.Page f
   page-shown c u f l e = subst (λ (x : uses.Use). FrameOk (v .place) (v .device) (v .top) (v .low) f x) e (co .frames f) .0
@@ -95,14 +95,14 @@ module _ {v : ledger.View} (s : State) (co : Coherent v) (k : Kept v s) (inside 
   -- what a place that shows a page says
   pub page-has : (c u f : ℕ) → v .place c u ≡ place.Page f → T (has s c u) × (frameOf s c u ≡ f) × (f < s .frames) × T (isOf c u (s .what f))
   page-has c u f e =
-    let p = page-there co c u f e in
-    let lt = page-below c u f (p .0) (p .1) in
-    let is : T (isOf c u (s .what f)) = subst (λ (x : Use). T (isOf c u x)) (sym (k .usesAre f)) (subst (λ (x : uses.Use). T (isOf c u (useMeant x))) (sym (p .1)) (page-of c u (p .0))) in
-    let h = any-from (s .frames) (λ (g : ℕ). isOf c u (s .what g)) f lt is in
-    let q = first-passes (s .frames) (λ (g : ℕ). isOf c u (s .what g)) h in
-    let o = of-page c u (v .used (frameOf s c u)) (subst (λ (x : Use). T (isOf c u x)) (k .usesAre (frameOf s c u)) (q .1)) in
-    let w = page-shown co c u (frameOf s c u) (o .0) (o .1) in
-    (h, cc, lt, is)
+      let p = page-there co c u f e in
+      let lt = page-below c u f (p .0) (p .1) in
+      let is : T (isOf c u (s .what f)) = subst (λ (x : Use). T (isOf c u x)) (sym (k .usesAre f)) (subst (λ (x : uses.Use). T (isOf c u (useMeant x))) (sym (p .1)) (page-of c u (p .0))) in
+      let h = any-from (s .frames) (λ (g : ℕ). isOf c u (s .what g)) f lt is in
+      let q = first-passes (s .frames) (λ (g : ℕ). isOf c u (s .what g)) h in
+      let o = of-page c u (v .used (frameOf s c u)) (subst (λ (x : Use). T (isOf c u x)) (k .usesAre (frameOf s c u)) (q .1)) in
+      let w = page-shown co c u (frameOf s c u) (o .0) (o .1) in
+      (h, cc, lt, is)
 
   pub page-use : (c u f : ℕ) (l : loans.Loan) → v .used f ≡ used.PageOf c u l → s .what f ≡ Of c u (loanMeant l)
   unfolding useMeant
@@ -110,20 +110,20 @@ module _ {v : ledger.View} (s : State) (co : Coherent v) (k : Kept v s) (inside 
 
   pub no-page : (c u : ℕ) → ((f : ℕ) → v .place c u ≡ place.Page f → ⊥) → T (not (has s c u))
   no-page c u none = none-any (s .frames) (λ (g : ℕ). isOf c u (s .what g)) (λ f lt t.
-    let o = of-page c u (v .used f) (subst (λ (x : Use). T (isOf c u x)) (k .usesAre f) t) in
-    none f (page-shown co c u f (o .0) (o .1)))
+      let o = of-page c u (v .used f) (subst (λ (x : Use). T (isOf c u x)) (k .usesAre f) t) in
+      none f (page-shown co c u f (o .0) (o .1)))
 
   pub vacant : (c u : ℕ) → v .place c u ≡ place.Nothing → T (not (taken s c u))
   unfolding regsMeant
   vacant c u e =
-    nor (has s c u) (not (eqb (s .regs c u) 0)) (no-page c u (λ f p. let z : _≡_ {A = ℕ} 0 1 = cc in omega arith))
+      nor (has s c u) (not (eqb (s .regs c u) 0)) (no-page c u (λ f p. let z : _≡_ {A = ℕ} 0 1 = cc in omega arith))
       (let r : s .regs c u ≡ 0 = k .regsAre c u ∙ ap regsMeant e in rw r tt)
 
   pub registers-taken : (c u d : ℕ) → v .place c u ≡ place.Registers d → (s .regs c u ≡ suc d) × T (taken s c u)
   unfolding regsMeant
   registers-taken c u d e =
-    let r : s .regs c u ≡ suc d = k .regsAre c u ∙ ap regsMeant e in
-    (r, right (has s c u) (not (eqb (s .regs c u) 0)) (rw r (other-number (suc d) 0 (λ e. omega arith))))
+      let r : s .regs c u ≡ suc d = k .regsAre c u ∙ ap regsMeant e in
+      (r, right (has s c u) (not (eqb (s .regs c u) 0)) (rw r (other-number (suc d) 0 (λ e. omega arith))))
 
   -- what each place shows is what the meaning has there
   pub shown-right : (space : ℕ → ℕ → Shown) → ((c u : ℕ) → c < 32 → u < 1024 → space c u ≡ shownMeant (v .place c u)) → ShownAt s space
@@ -139,9 +139,10 @@ module _ {v : ledger.View} (s : State) (co : Coherent v) (k : Kept v s) (inside 
   pub idle-frame : (f : ℕ) → f < s .frames → v .used f ≡ used.Idle → T (idle s f) × T (not (full s))
   unfolding useMeant isIdle
   idle-frame f lt e =
-    let i : T (isIdle (s .what f)) = subst (λ (x : Use). T (isIdle x)) (sym (k .usesAre f ∙ ap useMeant e)) tt in
-    (pair (ltb f (s .frames)) (isIdle (s .what f)) (from-true (ltb f (s .frames)) (lt-ltb f (s .frames) lt)) i,
-     not-not-from (any (s .frames) (λ (g : ℕ). isIdle (s .what g))) (any-from (s .frames) (λ (g : ℕ). isIdle (s .what g)) f lt i))
+      let i : T (isIdle (s .what f)) = subst (λ (x : Use). T (isIdle x)) (sym (k .usesAre f ∙ ap useMeant e)) tt in (
+        pair (ltb f (s .frames)) (isIdle (s .what f)) (from-true (ltb f (s .frames)) (lt-ltb f (s .frames) lt)) i,
+        not-not-from (any (s .frames) (λ (g : ℕ). isIdle (s .what g))) (any-from (s .frames) (λ (g : ℕ). isIdle (s .what g)) f lt i),
+      )
 
   pub no-idle : ((f : ℕ) → f < s .frames → v .used f ≡ used.Idle → ⊥) → T (full s)
   no-idle none = none-any (s .frames) (λ (g : ℕ). isIdle (s .what g)) (λ f lt t. none f lt (idle-use (v .used f) (subst (λ (x : Use). T (isIdle x)) (k .usesAre f) t)))

@@ -5,3 +5,4 @@ pub mod Promise
 pub mod Sound
 pub mod Serving
 pub mod Kept
+pub mod Operations

@@ -10,6 +10,14 @@ ghost use Rattle.house.specs.Meaning.{Explained, Quiet};
 ghost use Rattle.house.specs.Promise.{can, roomOf, startOf};
 ghost use Rattle.house.specs.Serving.{Keeps, Begins};
 
+mod frames;
+
+use frames::clear;
+use ledger::setup::set_up;
+
+// the frame in which the device table is
+const DEVICE_TABLE: u32 = 0;
+
 // What a program may ask for. v, at: places of an address space, below 1,024; d: a device; p: a page of a device's own address
 // space, below 262,144; to, who: programs.
 #[derive(Clone, Copy)]
@@ -125,7 +133,7 @@ pub struct Keeper {
     next: u32,
 }
 
-// Sets up the keeper. Nothing is built yet, so the IOMMU is not started.
+// Sets up the room, makes the device table empty, and only then starts the IOMMU.
 pub fn boot<M: Machine>(w: &mut M, room: &mut [u64]) -> Keeper
     requires soon { ⌜ 2048 ≤ hw (now w) .left ⌝ }
     requires starts { ⌜ AtStart (hw (now w)) ⌝ }
@@ -133,6 +141,9 @@ pub fn boot<M: Machine>(w: &mut M, room: &mut [u64]) -> Keeper
     requires lent { ⌜ roomOf (hw (now w) .frames) ≤ length (now room) ⌝ }
     ensures { λ _. ⌜ Keeps (now (room .exit)) Quiet (hw (now (w .exit))) (seen (now (w .exit))) ⌝ }
 {
+    set_up(room, w.frames());
+    clear(w, DEVICE_TABLE);
+    w.start();
     Keeper { next: 1 }
 }
 
