@@ -7,7 +7,7 @@ use mathlib.Core.List.{List, [], _∷_, List·Memᴰ, List·Memᴰ·head, List·
 use Prim.Native.Nat.{ℕ, zero, suc, _+_, _-_, _*_, _/_, _%_, _<_, _≤_}
 use native.Mathlib.Omega.{arith}
 use lib.Dec.{eqb, ltb, leb, T, eqb→eq, eqb-refl, T-not, not-T}
-use Rattle.std.proofs.shelf.Tests.{cases-eq, eq-eqb, ne-eqb, cond-both, eqb-true, eqb-false, and-right}
+use Rattle.std.proofs.shelf.Tests.{cases-eq, eq-eqb, ne-eqb, cond-both, eqb-true, eqb-false, and-right, and-parts}
 use Rattle.std.proofs.shelf.Ways.{tells}
 use Rattle.house.specs.Machine.{Up, Mid, Leaf, put, frameIn, mayWrite, noUp, noMid, noLeaf}
 use Rattle.house.specs.Meaning.{Loan, Home, Lent, Leaving, Use, House, TableOf, Idle, Of, Dev, loanOf, reaches, isIdle, useAt}
@@ -66,6 +66,10 @@ put-elsewhere f k x m g j h = rw (ne-eqb g f h)
 
 pub put-beside : (f k x : ℕ) (m : ℕ → ℕ → ℕ) (g j : ℕ) → (j ≡ k → ⊥) → put f k x m g j ≡ m g j
 put-beside f k x m g j h = rw (and-right (eqb g f) (eqb j k) (ne-eqb j k h))
+
+pub put-either : (f k x : ℕ) (m : ℕ → ℕ → ℕ) (g j : ℕ) (P : ℕ → Type 0) → (g ≡ f → j ≡ k → P x) → P (m g j) → P (put f k x m g j)
+put-either f k x m g j P here there =
+    cond-both (eqb g f && eqb j k) x (m g j) P (λ e. let b = and-parts (eqb g f) (eqb j k) e in here (eqb-true g f (b .0)) (eqb-true j k (b .1))) (λ _. there)
 
 -- entries and pages
 pub entry-frame : (g : ℕ) (w : Bool) → frameIn (entryOf g w) ≡ g

@@ -10,13 +10,39 @@ use Rattle.std.proofs.shelf.Tests.{cases-eq, eq-eqb, ne-eqb, cond-both, eqb-tru
 use Rattle.house.specs.Machine.{Up, Mid, Leaf, put, frameIn, mayWrite, noLeaf}
 use Rattle.house.specs.Meaning.{Loan, Home, Lent, Leaving, Use, House, TableOf, Idle, Of, Dev, loanOf, isHome, reaches, isIdle, isShut, useAt, mapLoan, leaving, leavingFrom}
 use Rattle.house.specs.Sound.{Tables, View, Held, Good, Mapped, Sound, Words, entryOf, isPage}
-use Rattle.house.proofs.Facts.{withUses, test-parts, test-both, change-at, change-here, change-off, put-here, put-elsewhere, put-beside, entry-frame, entry-writes, entry-some, page-back, no-leaf, reached-at, table-not-house, table-not-idle, same-table, house-not-idle}
+use Rattle.house.proofs.Facts.{withUses, test-parts, test-both, change-at, change-here, change-off, put-here, put-elsewhere, put-beside, entry-frame, entry-writes, entry-some, page-back, no-leaf, reached-at, table-not-house, table-not-idle, same-table, house-not-idle, passed}
 
 -- a good entry of one view is good in another where its frame is reached as it was
 pub good-to : {v : View} {d p e : ℕ} (n : ℕ) (what : ℕ → Use) (dev : ℕ → Dev) (slots : ℕ → ℕ → Bool) →
     ((w : Bool) → T (reaches d p w (loanOf (v .what (frameIn e)))) → T (reaches d p w (loanOf (what (frameIn e))))) →
     Good v d p e → Good (record { frames = v .frames; devices = n; what = what; dev = dev; slots = slots }) d p e
 good-to n what dev slots k g = record { some = g .some; frame = g .frame; reads = k false (g .reads); writes = λ t. k true (g .writes t) }
+
+reached-here : (d p : ℕ) (b : Bool) → T b → T (eqb d d && eqb p p && b)
+reached-here d p b t = test-both (eqb d d && eqb p p) b (test-both (eqb d d) (eqb p p) (eqb-refl d) (eqb-refl p)) t
+
+always : (w : Bool) → T (w || not false)
+always true = tt
+always false = tt
+
+good-at : (v : View) (g d p : ℕ) (w : Bool) → g < v .frames → ((x : Bool) → T (w || not x) → T (reaches d p x (loanOf (v .what g)))) → Good v d p (entryOf g w)
+good-at v g d p w b k =
+    let f = entry-frame g w in
+    record {
+        some = entry-some g w;
+        frame = subst (λ (x : ℕ). x < v .frames) (sym f) b;
+        reads = subst (λ (y : ℕ). T (reaches d p false (loanOf (v .what y)))) (sym f) (k false (always w));
+        writes = λ h. subst (λ (y : ℕ). T (reaches d p true (loanOf (v .what y)))) (sym f) (k true (let z : T w = subst T (entry-writes g w) h in rw (passed w z) tt))
+    }
+
+-- the entry of a page that is leaving, or lent, is good where it is
+pub good-leaving : (v : View) (g c u d p : ℕ) (w : Bool) → g < v .frames → v .what g ≡ Of c u (Leaving d p w) → Good v d p (entryOf g w)
+unfolding loanOf reaches
+good-leaving v g c u d p w b is = good-at v g d p w b (λ x h. subst (λ (y : Use). T (reaches d p x (loanOf y))) (sym is) (reached-here d p (w || not x) h))
+
+pub good-lent : (v : View) (g c u d p : ℕ) (w : Bool) → g < v .frames → v .what g ≡ Of c u (Lent d p w) → Good v d p (entryOf g w)
+unfolding loanOf reaches
+good-lent v g c u d p w b is = good-at v g d p w b (λ x h. subst (λ (y : Use). T (reaches d p x (loanOf y))) (sym is) (reached-here d p (w || not x) h))
 
 -- idle, or somebody's at home
 abbrev pub unlent : Use → Bool
@@ -37,19 +63,19 @@ unlent-unreached (Of c u (Lent e q x)) d p w a h = a
 unlent-unreached (Of c u (Leaving e q x)) d p w a h = a
 
 -- uses told apart
-abbrev paged : Use → Type 0
+abbrev pub paged : Use → Type 0
 paged House = ⊥
 paged (TableOf d) = ⊥
 paged Idle = ⊥
 paged (Of c u l) = Unit
 
-abbrev pageless : Use → Type 0
+abbrev pub pageless : Use → Type 0
 pageless House = Unit
 pageless (TableOf d) = Unit
 pageless Idle = Unit
 pageless (Of c u l) = ⊥
 
-abbrev lentless : Use → Type 0
+abbrev pub lentless : Use → Type 0
 lentless House = Unit
 lentless (TableOf d) = Unit
 lentless Idle = Unit
