@@ -7,12 +7,31 @@ use mathlib.Core.List.{List, [], _∷_, List·Memᴰ}
 use Prim.Native.Nat.{ℕ, zero, suc, _+_, _-_, _*_, _/_, _%_, _<_, _≤_}
 use native.Mathlib.Omega.{arith}
 use lib.Dec.{eqb, ltb, leb, T, eqb→eq, eqb-refl, T-not, not-T}
-use Rattle.std.proofs.shelf.Tests.{cases-eq, eq-eqb, ne-eqb, cond-both, cases-bool, eqb-true, eqb-false}
+use Rattle.std.proofs.shelf.Tests.{cases-eq, eq-eqb, ne-eqb, cond-both, cases-bool, eqb-true, eqb-false, and-parts, and-from, true≢false}
 use Rattle.house.specs.Machine.{Up, Mid, Leaf, put, frameIn}
 use Rattle.house.specs.Meaning.{Loan, Home, Lent, Leaving, Use, House, TableOf, Idle, Of, Dev, Shut, Opened, Closing, loanOf, reaches, isShut, useAt}
 use Rattle.house.specs.Sound.{Tables, View, Held, Good, Mapped, Sound, entryOf}
-use Rattle.house.proofs.Facts.{withUses, test-parts, test-both, test-either, passed, failed, unlike, change-at, change-here, change-off, put-here, put-elsewhere, put-beside, put-either, table-not-house, table-not-idle, house-not-idle, same-table}
+use Rattle.house.proofs.Facts.{withUses, withDevs, withSlots, test-parts, test-both, test-either, passed, failed, unlike, change-at, change-here, change-off, put-here, put-elsewhere, put-beside, put-either, table-not-house, table-not-idle, house-not-idle, same-table}
 use Rattle.house.proofs.Uses.{good-to, mem-change, idle-to-table}
+
+-- tables with one more lower one, with another upper one
+abbrev pub withLow : ℕ → ℕ → ℕ → Tables → Tables
+withLow d i f t = record { top = t .top; low = λ e j. cond (eqb e d && eqb j i) f (t .low e j) }
+
+abbrev pub withTop : ℕ → ℕ → Tables → Tables
+withTop d f t = record { top = λ e. cond (eqb e d) f (t .top e); low = t .low }
+
+also : (a b : Bool) → T a → T (a || b)
+also true b h = tt
+also false b h = absurd h
+
+linked-new : (a b : Bool) (f l : ℕ) → b ≡ true → cond (a || b) (suc (cond b f l)) 0 ≡ suc f
+linked-new true b f l e = rw e refl
+linked-new false b f l e = rw e refl
+
+linked-old : (a b : Bool) (f l : ℕ) → b ≡ false → cond (a || b) (suc (cond b f l)) 0 ≡ cond a (suc l) 0
+linked-old true b f l e = rw e refl
+linked-old false b f l e = rw e refl
 
 module _ {t : Tables} {v : View} {mem : ℕ → ℕ → ℕ} {live : Bool} {ups : List Up} {mids : List Mid} {leaves flying : List Leaf} (s : Sound t v mem live ups mids leaves flying) where
 
@@ -94,3 +113,96 @@ module _ {t : Tables} {v : View} {mem : ℕ → ℕ → ℕ} {live : Bool} {ups 
               let m = s .lent f c u d p w b e in
               record { started = m .started; held = m .held; page = m .page; there = m .there; root = m .root ∙ ap suc (sym (tops d (m .held))); entry = ap (λ (x : ℕ). mem x (p % 512)) (lows d (p / 512) (m .there)) ∙ m .entry }
       }
+
+  -- a lower table at a slot of a device; its frame is that device's already
+  link-made : (f d i : ℕ) → f < v .frames → v .what f ≡ TableOf d → ((e : ℕ) → Held v e → t .top e ≡ f → ⊥) → ((e j : ℕ) → T (v .slots e j) → t .low e j ≡ f → ⊥) →
+      Held v d → i < 512 → T (not (v .slots d i)) → ((k : ℕ) → k < 512 → (mem f k ≡ 0) ⊎ Good v d (512 * i + k) (mem f k)) →
+      Sound (withLow d i f t) (withSlots (λ e j. v .slots e j || (eqb e d && eqb j i)) v) (put (t .top d) i (suc f) mem) live ups mids leaves flying
+  link-made f d i bound is offTop offLow opened small free words =
+      record {
+          house = s .house;
+          root = λ l a b. subst (λ (x : ℕ). (x ≡ 0) ⊎ ((x ≡ suc (t .top a)) × T (not (isShut (v .dev a))))) (sym (root a)) (s .root l a b);
+          top = s .top;
+          slot = slot;
+          held = λ a k h. ⊎-elim (λ o. s .held a k o) (λ n. subst (Held v) (sym (n .0)) opened) (split a k h);
+          low = λ a k h.
+              ⊎-elim
+                  (λ o. subst (λ (x : ℕ). (x < v .frames) × (v .what x ≡ TableOf a)) (sym (old a k o)) (s .low a k o))
+                  (λ n. subst (λ (x : ℕ). (x < v .frames) × (v .what x ≡ TableOf a)) (sym (new a k n)) (bound, is ∙ ap TableOf (sym (n .0))))
+                  (split a k h);
+          apart = λ a k h z.
+              ⊎-elim (λ o. s .apart a k o (sym (old a k o) ∙ z)) (λ n. offTop d opened (ap (t .top) (sym (n .0)) ∙ sym z ∙ new a k n)) (split a k h);
+          distinct = λ a k n h g z.
+              ⊎-elim
+                  (λ o. ⊎-elim (λ q. s .distinct a k n o q (sym (old a k o) ∙ z ∙ old a n q)) (λ q. absurd (offLow a k o (sym (old a k o) ∙ z ∙ new a n q))) (split a n g))
+                  (λ o. ⊎-elim (λ q. absurd (offLow a n q (sym (old a n q) ∙ sym z ∙ new a k o))) (λ q. o .1 ∙ sym (q .1)) (split a n g))
+                  (split a k h);
+          entries = λ a k n h b c.
+              ⊎-elim
+                  (λ o. subst (λ (x : ℕ). (x ≡ 0) ⊎ Good v2 a (512 * k + n) x) (sym (ap (λ (x : ℕ). mem2 x n) (old a k o) ∙ low a k n o)) (⊎-elim (λ z. inl z) (λ g. inr (again a (512 * k + n) (mem (t .low a k) n) g)) (s .entries a k n o b c)))
+                  (λ o. subst (λ (x : ℕ). (x ≡ 0) ⊎ Good v2 a (512 * k + n) x) (sym (ap (λ (x : ℕ). mem2 x n) (new a k o) ∙ own n)) (⊎-elim (λ z. inl z) (λ g. inr (again a (512 * k + n) (mem f n) g)) (word a k n c o)))
+                  (split a k h);
+          upsGood = s .upsGood;
+          midsGood = λ m h. let r = s .midsGood m h in (r .0, also (v .slots (m .dev) (m .slot)) (eqb (m .dev) d && eqb (m .slot) i) (r .1), r .2 ∙ sym (old (m .dev) (m .slot) (r .1)));
+          leavesGood = λ l h. again (l .dev) (l .page) (l .entry) (s .leavesGood l h);
+          flyingGood = λ l h. again (l .dev) (l .page) (l .entry) (s .flyingGood l h);
+          lent = λ g c u a p w b e.
+              let m = s .lent g c u a p w b e in
+              record {
+                  started = m .started;
+                  held = m .held;
+                  page = m .page;
+                  there = also (v .slots a (p / 512)) (eqb a d && eqb (p / 512) i) (m .there);
+                  root = root a ∙ m .root;
+                  entry = ap (λ (x : ℕ). mem2 x (p % 512)) (old a (p / 512) (m .there)) ∙ low a (p / 512) (p % 512) (m .there) ∙ m .entry
+              }
+      }
+    where
+      mem2 : ℕ → ℕ → ℕ
+      mem2 = put (t .top d) i (suc f) mem
+      v2 : View
+      v2 = withSlots (λ e j. v .slots e j || (eqb e d && eqb j i)) v
+      again : (a p e : ℕ) → Good v a p e → Good v2 a p e
+      again a p e g = good-to (v .devices) (v .what) (v .dev) (λ e j. v .slots e j || (eqb e d && eqb j i)) (λ w h. h) g
+      split : (a k : ℕ) → T (v .slots a k || (eqb a d && eqb k i)) → T (v .slots a k) ⊎ ((a ≡ d) × (k ≡ i))
+      split a k h = ⊎-elim (λ o. inl o) (λ n. let b = test-parts (eqb a d) (eqb k i) n in inr (eqb→eq a d (b .0), eqb→eq k i (b .1))) (test-either (v .slots a k) (eqb a d && eqb k i) h)
+      other : (a k : ℕ) → T (v .slots a k) → (eqb a d && eqb k i) ≡ false
+      other a k h = failed (eqb a d && eqb k i) (not-T (eqb a d && eqb k i) (λ n.
+          let b = test-parts (eqb a d) (eqb k i) n in
+          T-not (v .slots d i) free (subst (λ (x : ℕ). T (v .slots d x)) (eqb→eq k i (b .1)) (subst (λ (x : ℕ). T (v .slots x k)) (eqb→eq a d (b .0)) h))))
+      old : (a k : ℕ) → T (v .slots a k) → cond (eqb a d && eqb k i) f (t .low a k) ≡ t .low a k
+      old a k h = rw (other a k h)
+      new : (a k : ℕ) → (a ≡ d) × (k ≡ i) → cond (eqb a d && eqb k i) f (t .low a k) ≡ f
+      new a k n = rw (eq-eqb a d (n .0), eq-eqb k i (n .1))
+      root : (a : ℕ) → mem2 0 a ≡ mem 0 a
+      root a = put-elsewhere (t .top d) i (suc f) mem 0 a (λ z. top-not-root d opened (sym z))
+      low : (a k n : ℕ) → T (v .slots a k) → mem2 (t .low a k) n ≡ mem (t .low a k) n
+      low a k n h = put-elsewhere (t .top d) i (suc f) mem (t .low a k) n (low-not-top a k d h opened)
+      own : (n : ℕ) → mem2 f n ≡ mem f n
+      own n = put-elsewhere (t .top d) i (suc f) mem f n (λ z. offTop d opened (sym z))
+      word : (a k n : ℕ) → n < 512 → (a ≡ d) × (k ≡ i) → (mem f n ≡ 0) ⊎ Good v a (512 * k + n) (mem f n)
+      word a k n b o = subst (λ (x : ℕ). (mem f n ≡ 0) ⊎ Good v x (512 * k + n) (mem f n)) (sym (o .0)) (subst (λ (x : ℕ). (mem f n ≡ 0) ⊎ Good v d (512 * x + n) (mem f n)) (sym (o .1)) (words n b))
+      slot : (a k : ℕ) → Held v a → k < 512 → mem2 (t .top a) k ≡ cond (v .slots a k || (eqb a d && eqb k i)) (suc (cond (eqb a d && eqb k i) f (t .low a k))) 0
+      slot a k h b =
+          ⊎-elim
+              (λ (e : (eqb a d && eqb k i) ≡ true).
+                  let n = and-parts (eqb a d) (eqb k i) e in
+                  ap (λ (x : ℕ). mem2 (t .top x) k) (eqb-true a d (n .0)) ∙ ap (λ (x : ℕ). mem2 (t .top d) x) (eqb-true k i (n .1)) ∙ put-here (t .top d) i (suc f) mem ∙
+                      sym (linked-new (v .slots a k) (eqb a d && eqb k i) f (t .low a k) e))
+              (λ (e : (eqb a d && eqb k i) ≡ false).
+                  put-either (t .top d) i (suc f) mem (t .top a) k (λ x. x ≡ mem (t .top a) k) (λ y z. absurd (true≢false (sym (and-from (eqb a d) (eqb k i) (eq-eqb a d (top-owner a d h opened y)) (eq-eqb k i z)) ∙ e))) refl ∙
+                      s .slot a k h b ∙ sym (linked-old (v .slots a k) (eqb a d && eqb k i) f (t .low a k) e))
+              (cases-bool (eqb a d && eqb k i))
+
+-- an idle frame is linked as the lower table of a slot that was not there
+pub link : {t : Tables} {v : View} {mem : ℕ → ℕ → ℕ} {live : Bool} {ups : List Up} {mids : List Mid} {leaves flying : List Leaf} → Sound t v mem live ups mids leaves flying →
+    (f d i : ℕ) → f < v .frames → v .what f ≡ Idle → Held v d → i < 512 → T (not (v .slots d i)) → ((k : ℕ) → k < 512 → (mem f k ≡ 0) ⊎ Good v d (512 * i + k) (mem f k)) →
+    Sound (withLow d i f t) (withSlots (λ e j. v .slots e j || (eqb e d && eqb j i)) (withUses (useAt f (TableOf d) (v .what)) v)) (put (t .top d) i (suc f) mem) live ups mids leaves flying
+unfolding loanOf reaches
+link {t} {v} {mem} s f d i bound is opened small free words =
+    link-made (idle-to-table s f d is) f d i bound
+        (change-here f (TableOf d) (v .what f))
+        (λ e h z. table-not-idle (v .what f) e is (ap (v .what) (sym z) ∙ s .top e h .1))
+        (λ e j h z. table-not-idle (v .what f) e is (ap (v .what) (sym z) ∙ s .low e j h .1))
+        opened small free
+        (λ k b. ⊎-elim (λ z. inl z) (λ g. inr (good-to (v .devices) (useAt f (TableOf d) (v .what)) (v .dev) (v .slots) (λ w h. change-at (λ (x : Use). T (reaches d (512 * i + k) w (loanOf x))) (frameIn (mem f k)) f (TableOf d) (v .what (frameIn (mem f k))) (λ z. subst (λ (x : Use). T (reaches d (512 * i + k) w (loanOf x))) (ap (v .what) z ∙ is) h) (λ _. h)) g)) (words k b))
