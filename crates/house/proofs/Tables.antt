@@ -7,7 +7,7 @@ use mathlib.Core.List.{List, [], _∷_, List·Memᴰ}
 use Prim.Native.Nat.{ℕ, zero, suc, _+_, _-_, _*_, _/_, _%_, _<_, _≤_}
 use native.Mathlib.Omega.{arith}
 use lib.Dec.{eqb, ltb, leb, T, eqb→eq, eqb-refl, T-not, not-T}
-use Rattle.std.proofs.shelf.Tests.{cases-eq, eq-eqb, ne-eqb, cond-both, cases-bool, eqb-true, eqb-false, and-parts, and-from, true≢false}
+use Rattle.std.proofs.shelf.Tests.{cases-eq, eq-eqb, ne-eqb, cond-both, cases-bool, eqb-true, eqb-false, and-parts, and-from, true≢false, cond-false}
 use Rattle.house.specs.Machine.{Up, Mid, Leaf, put, frameIn}
 use Rattle.house.specs.Meaning.{Loan, Home, Lent, Leaving, Use, House, TableOf, Idle, Of, Dev, Shut, Opened, Closing, loanOf, reaches, isShut, useAt}
 use Rattle.house.specs.Sound.{Tables, View, Held, Good, Mapped, Sound, entryOf}
@@ -194,6 +194,66 @@ module _ {t : Tables} {v : View} {mem : ℕ → ℕ → ℕ} {live : Bool} {ups 
                       s .slot a k h b ∙ sym (linked-old (v .slots a k) (eqb a d && eqb k i) f (t .low a k) e))
               (cases-bool (eqb a d && eqb k i))
 
+  -- an upper table for a device that was shut; its frame is that device's already
+  open-made : (f d c : ℕ) → f < v .frames → v .what f ≡ TableOf d → ((k : ℕ) → k < 512 → mem f k ≡ 0) → d < v .devices → T (isShut (v .dev d)) →
+      Sound (withTop d f t) (withDevs (λ e. cond (eqb e d) (Opened c) (v .dev e)) v) (put 0 d (suc f) mem) live ups mids leaves flying
+  unfolding isShut
+  open-made f d c bound is zeros known shut =
+      record {
+          house = s .house;
+          root = λ l a b.
+              ⊎-elim (λ (z : a ≡ d). rw (eq-eqb a d z) (inr (refl, tt))) (λ (z : a ≡ d → ⊥). rw (ne-eqb a d z) (s .root l a b)) (cases-eq a d);
+          top = λ a h.
+              ⊎-elim (λ (z : a ≡ d). rw (eq-eqb a d z) (bound, is ∙ ap TableOf (sym z))) (λ (z : a ≡ d → ⊥). rw (ne-eqb a d z) (s .top a (before a z h))) (cases-eq a d);
+          slot = λ a i h b.
+              ⊎-elim
+                  (λ (z : a ≡ d). ap (λ (x : ℕ). mem2 x i) (top-new a z) ∙ put-elsewhere 0 d (suc f) mem f i (λ y. table-not-house (v .what f) d (ap (v .what) y ∙ s .house) is) ∙ zeros i b ∙ sym (cond-false (v .slots a i) (suc (t .low a i)) 0 (bare a i z)))
+                  (λ (z : a ≡ d → ⊥). ap (λ (x : ℕ). mem2 x i) (top-old a z) ∙ put-elsewhere 0 d (suc f) mem (t .top a) i (top-not-root a (before a z h)) ∙ s .slot a i (before a z h) b)
+                  (cases-eq a d);
+          held = λ a i h. after a (s .held a i h);
+          low = s .low;
+          apart = λ a i h z. s .apart a i h (z ∙ top-old a (other a (s .held a i h)));
+          distinct = s .distinct;
+          entries = λ a i j h b k.
+              subst (λ (x : ℕ). (x ≡ 0) ⊎ Good v2 a (512 * i + j) x) (sym (low a i j h)) (⊎-elim (λ z. inl z) (λ g. inr (again a (512 * i + j) (mem (t .low a i) j) g)) (s .entries a i j h b k));
+          upsGood = λ u m. let r = s .upsGood u m in (after (u .dev) (r .0), r .1 ∙ sym (top-old (u .dev) (other (u .dev) (r .0))));
+          midsGood = s .midsGood;
+          leavesGood = λ l h. again (l .dev) (l .page) (l .entry) (s .leavesGood l h);
+          flyingGood = λ l h. again (l .dev) (l .page) (l .entry) (s .flyingGood l h);
+          lent = λ g o u a p w b e.
+              let m = s .lent g o u a p w b e in
+              let n = other a (m .held) in
+              record {
+                  started = m .started;
+                  held = after a (m .held);
+                  page = m .page;
+                  there = m .there;
+                  root = put-beside 0 d (suc f) mem 0 a n ∙ m .root ∙ ap suc (sym (top-old a n));
+                  entry = low a (p / 512) (p % 512) (m .there) ∙ m .entry
+              }
+      }
+    where
+      mem2 : ℕ → ℕ → ℕ
+      mem2 = put 0 d (suc f) mem
+      v2 : View
+      v2 = withDevs (λ e. cond (eqb e d) (Opened c) (v .dev e)) v
+      again : (a p e : ℕ) → Good v a p e → Good v2 a p e
+      again a p e g = good-to (v .devices) (v .what) (λ e. cond (eqb e d) (Opened c) (v .dev e)) (v .slots) (λ w h. h) g
+      other : (a : ℕ) → Held v a → a ≡ d → ⊥
+      other a h z = T-not (isShut (v .dev d)) (subst (λ (x : ℕ). T (not (isShut (v .dev x)))) z (h .1)) shut
+      before : (a : ℕ) → (a ≡ d → ⊥) → Held v2 a → Held v a
+      before a z h = (h .0, subst (λ (x : Dev). T (not (isShut x))) (change-off a d (Opened c) (v .dev a) z) (h .1))
+      after : (a : ℕ) → Held v a → Held v2 a
+      after a h = (h .0, change-at (λ (x : Dev). T (not (isShut x))) a d (Opened c) (v .dev a) (λ _. tt) (λ _. h .1))
+      top-new : (a : ℕ) → a ≡ d → cond (eqb a d) f (t .top a) ≡ f
+      top-new a z = rw (eq-eqb a d z)
+      top-old : (a : ℕ) → (a ≡ d → ⊥) → cond (eqb a d) f (t .top a) ≡ t .top a
+      top-old a z = change-off a d f (t .top a) z
+      bare : (a i : ℕ) → a ≡ d → v .slots a i ≡ false
+      bare a i z = failed (v .slots a i) (not-T (v .slots a i) (λ h. other a (s .held a i h) z))
+      low : (a i j : ℕ) → T (v .slots a i) → mem2 (t .low a i) j ≡ mem (t .low a i) j
+      low a i j h = put-elsewhere 0 d (suc f) mem (t .low a i) j (low-not-root a i h)
+
 -- an idle frame is linked as the lower table of a slot that was not there
 pub link : {t : Tables} {v : View} {mem : ℕ → ℕ → ℕ} {live : Bool} {ups : List Up} {mids : List Mid} {leaves flying : List Leaf} → Sound t v mem live ups mids leaves flying →
     (f d i : ℕ) → f < v .frames → v .what f ≡ Idle → Held v d → i < 512 → T (not (v .slots d i)) → ((k : ℕ) → k < 512 → (mem f k ≡ 0) ⊎ Good v d (512 * i + k) (mem f k)) →
@@ -206,3 +266,9 @@ link {t} {v} {mem} s f d i bound is opened small free words =
         (λ e j h z. table-not-idle (v .what f) e is (ap (v .what) (sym z) ∙ s .low e j h .1))
         opened small free
         (λ k b. ⊎-elim (λ z. inl z) (λ g. inr (good-to (v .devices) (useAt f (TableOf d) (v .what)) (v .dev) (v .slots) (λ w h. change-at (λ (x : Use). T (reaches d (512 * i + k) w (loanOf x))) (frameIn (mem f k)) f (TableOf d) (v .what (frameIn (mem f k))) (λ z. subst (λ (x : Use). T (reaches d (512 * i + k) w (loanOf x))) (ap (v .what) z ∙ is) h) (λ _. h)) g)) (words k b))
+
+-- an idle frame of noughts is linked as the upper table of a device that is opened
+pub open-device : {t : Tables} {v : View} {mem : ℕ → ℕ → ℕ} {live : Bool} {ups : List Up} {mids : List Mid} {leaves flying : List Leaf} → Sound t v mem live ups mids leaves flying →
+    (f d c : ℕ) → f < v .frames → v .what f ≡ Idle → ((k : ℕ) → k < 512 → mem f k ≡ 0) → d < v .devices → T (isShut (v .dev d)) →
+    Sound (withTop d f t) (withDevs (λ e. cond (eqb e d) (Opened c) (v .dev e)) (withUses (useAt f (TableOf d) (v .what)) v)) (put 0 d (suc f) mem) live ups mids leaves flying
+open-device {v = v} s f d c bound is zeros known shut = open-made (idle-to-table s f d is) f d c bound (change-here f (TableOf d) (v .what f)) zeros known shut
