@@ -1,3 +1,4 @@
 pub mod Facts
-pub mod Uses
+pub mod Shutting
 pub mod Tables
+pub mod Uses

@@ -1,5 +1,5 @@
 -- Changes of memory and of uses that keep the relation: what each asks, and the keeper's single changes. Assumes nothing.
-use mathlib.Core.Path.{_≡_, refl, sym, ap, subst, _∙_}
+use mathlib.Core.Path.{_≡_, refl, sym, ap, subst, _∙_, fun-ext}
 use mathlib.Core.Bool.{Bool, true, false, cond, _&&_, _||_, not}
 use mathlib.Core.Logic.{_⊎_, inl, inr, ⊎-elim}
 use mathlib.Core.List.{List, [], _∷_, List·Memᴰ}
@@ -83,7 +83,7 @@ lentless (Of c u Home) = Unit
 lentless (Of c u (Lent d p w)) = ⊥
 lentless (Of c u (Leaving d p w)) = Unit
 
-abbrev lent : Loan → Type 0
+abbrev pub lent : Loan → Type 0
 lent Home = ⊥
 lent (Lent d p w) = Unit
 lent (Leaving d p w) = ⊥
@@ -200,18 +200,22 @@ module _ {t : Tables} {v : View} {mem : ℕ → ℕ → ℕ} {live : Bool} {ups 
   pub uses-keep : (what2 : ℕ → Use) →
       what2 0 ≡ House →
       ((g d : ℕ) → v .what g ≡ TableOf d → what2 g ≡ TableOf d) →
-      ((g d p : ℕ) (w : Bool) → T (reaches d p w (loanOf (v .what g))) → T (reaches d p w (loanOf (what2 g)))) →
-      ((g c u d p : ℕ) (w : Bool) → what2 g ≡ Of c u (Lent d p w) → (a : ℕ) × (b : ℕ) × (v .what g ≡ Of a b (Lent d p w))) →
+      ((g d p : ℕ) (w : Bool) → g < v .frames → T (reaches d p w (loanOf (v .what g))) → T (reaches d p w (loanOf (what2 g)))) →
+      ((g c u d p : ℕ) (w : Bool) → g < v .frames → what2 g ≡ Of c u (Lent d p w) → (a : ℕ) × (b : ℕ) × (v .what g ≡ Of a b (Lent d p w))) →
       Sound t (withUses what2 v) mem live ups mids leaves flying
   uses-keep what2 house tables reach lents =
       uses-change what2 house tables
           (λ d i j h b c g. still d (512 * i + j) (mem (t .low d i) j) g)
           (λ l m g. still (l .dev) (l .page) (l .entry) g)
           (λ l m g. still (l .dev) (l .page) (l .entry) g)
-          (λ f c u d p w b e. let r = lents f c u d p w e in s .lent f (r .0) (r .1) d p w b (r .2))
+          (λ f c u d p w b e. let r = lents f c u d p w b e in s .lent f (r .0) (r .1) d p w b (r .2))
     where
       still : (d p e : ℕ) → Good v d p e → Good (withUses what2 v) d p e
-      still d p e g = good-to (v .devices) what2 (v .dev) (v .slots) (λ w. reach (frameIn e) d p w) g
+      still d p e g = good-to (v .devices) what2 (v .dev) (v .slots) (λ w. reach (frameIn e) d p w (g .frame)) g
+
+  -- uses that are equal one by one
+  pub uses-same : (what2 : ℕ → Use) → ((g : ℕ) → v .what g ≡ what2 g) → Sound t (withUses what2 v) mem live ups mids leaves flying
+  uses-same what2 e = subst (λ (x : ℕ → Use). Sound t (withUses x v) mem live ups mids leaves flying) (fun-ext e) s
 
   -- the same at one frame
   pub use-keeps : (f : ℕ) (old new : Use) → v .what f ≡ old →
@@ -224,8 +228,8 @@ module _ {t : Tables} {v : View} {mem : ℕ → ℕ → ℕ} {live : Bool} {ups 
       uses-keep (useAt f new (v .what))
           (change-at (λ (x : Use). x ≡ House) 0 f new (v .what 0) (λ e. house (sym is ∙ ap (v .what) (sym e) ∙ s .house)) (λ _. s .house))
           (λ g d h. change-at (λ (x : Use). x ≡ TableOf d) g f new (v .what g) (λ e. tables d (sym is ∙ ap (v .what) (sym e) ∙ h)) (λ _. h))
-          (λ g d p w h. change-at (λ (x : Use). T (reaches d p w (loanOf x))) g f new (v .what g) (λ e. reach d p w (subst (λ (x : Use). T (reaches d p w (loanOf x))) (ap (v .what) e ∙ is) h)) (λ _. h))
-          (λ g c u d p w. change-at (λ (x : Use). x ≡ Of c u (Lent d p w) → (a : ℕ) × (b : ℕ) × (v .what g ≡ Of a b (Lent d p w))) g f new (v .what g)
+          (λ g d p w _ h. change-at (λ (x : Use). T (reaches d p w (loanOf x))) g f new (v .what g) (λ e. reach d p w (subst (λ (x : Use). T (reaches d p w (loanOf x))) (ap (v .what) e ∙ is) h)) (λ _. h))
+          (λ g c u d p w _. change-at (λ (x : Use). x ≡ Of c u (Lent d p w) → (a : ℕ) × (b : ℕ) × (v .what g ≡ Of a b (Lent d p w))) g f new (v .what g)
               (λ e h. let r = lents c u d p w h in (r .0, r .1, ap (v .what) e ∙ is ∙ r .2))
               (λ _ h. (c, u, h)))
 
@@ -265,8 +269,8 @@ module _ {t : Tables} {v : View} {mem : ℕ → ℕ → ℕ} {live : Bool} {ups 
       uses-keep (λ f. mapLoan g (v .what f))
           (ap (mapLoan g) (s .house))
           (λ f d e. ap (mapLoan g) e)
-          (λ f d p w h. mapped-reached g either (v .what f) d p w h)
-          (λ f c u d p w e. mapped-lent g either (v .what f) c u d p w e)
+          (λ f d p w _ h. mapped-reached g either (v .what f) d p w h)
+          (λ f c u d p w _ e. mapped-lent g either (v .what f) c u d p w e)
 
   pub leaving-all : (d : ℕ) → Sound t (withUses (λ f. mapLoan (leavingFrom d) (v .what f)) v) mem live ups mids leaves flying
   leaving-all d = loans-leave (leavingFrom d) (leaving-from d)
