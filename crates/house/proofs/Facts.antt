@@ -2,16 +2,15 @@
 -- with one part changed. Assumes nothing.
 use mathlib.Core.Path.{_≡_, refl, sym, ap, subst, _∙_}
 use mathlib.Core.Bool.{Bool, true, false, cond, _&&_, _||_, not}
-use mathlib.Core.Logic.{_⊎_, inl, inr, ⊎-elim}
-use mathlib.Core.List.{List, [], _∷_, List·Memᴰ, List·Memᴰ·head, List·Memᴰ·tail}
-use Prim.Native.Nat.{ℕ, zero, suc, _+_, _-_, _*_, _/_, _%_, _<_, _≤_}
+use mathlib.Core.Logic.{_⊎_, inl, inr}
+use mathlib.Core.List.{List, List·Memᴰ, List·Memᴰ·head, List·Memᴰ·tail}
+use Prim.Native.Nat.{ℕ, suc, _+_, _-_, _*_, _/_, _%_, _<_}
 use native.Mathlib.Omega.{arith}
-use lib.Dec.{eqb, ltb, leb, T, eqb→eq, eqb-refl, T-not, not-T}
-use Rattle.std.proofs.shelf.Tests.{cases-eq, eq-eqb, ne-eqb, cond-both, eqb-true, eqb-false, and-right, and-parts}
-use Rattle.std.proofs.shelf.Ways.{tells}
+use lib.Dec.{eqb, T, eqb→eq, eqb-refl, T-not}
+use Rattle.std.proofs.shelf.Tests.{eq-eqb, ne-eqb, cond-both, eqb-true, eqb-false, and-right, and-parts}
 use Rattle.house.specs.Machine.{Up, Mid, Leaf, put, frameIn, mayWrite, noUp, noMid, noLeaf}
-use Rattle.house.specs.Meaning.{Loan, Home, Lent, Leaving, Use, House, TableOf, Idle, Of, Dev, loanOf, reaches, isIdle, useAt}
-use Rattle.house.specs.Sound.{Tables, View, Good, entryOf, isPage}
+use Rattle.house.specs.Meaning.{Leaving, Use, House, TableOf, Idle, Of, Dev, reaches, isIdle}
+use Rattle.house.specs.Sound.{View, entryOf}
 
 -- a view with other uses, another row of devices, other slots
 abbrev pub withUses : (ℕ → Use) → View → View

@@ -1,4 +1,5 @@
 pub mod Facts
+pub mod Lending
 pub mod Pages
 pub mod Shutting
 pub mod Tables

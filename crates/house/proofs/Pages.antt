@@ -1,18 +1,15 @@
--- The words of pages under the keeper's changes, and loans from home to a device in one. Assumes nothing.
+-- The words of pages under the keeper's changes. Assumes nothing.
 use mathlib.Core.Path.{_≡_, refl, sym, ap, subst, _∙_}
-use mathlib.Core.Bool.{Bool, true, false, cond, _&&_, _||_, not}
-use mathlib.Core.Logic.{_⊎_, inl, inr, ⊎-elim}
-use mathlib.Core.List.{List}
-use Prim.Native.Nat.{ℕ, zero, suc, _+_, _-_, _*_, _/_, _%_, _<_, _≤_}
-use native.Mathlib.Omega.{arith}
-use lib.Dec.{eqb, T, eqb-refl, T-not, not-T}
-use Rattle.std.proofs.shelf.Tests.{cases-eq, eq-eqb, ne-eqb, cond-both}
-use Rattle.house.specs.Machine.{Up, Mid, Leaf, put, frameIn}
-use Rattle.house.specs.Meaning.{Loan, Home, Lent, Leaving, Use, House, TableOf, Idle, Of, Dev, loanOf, reaches, isShut, useAt, mapLoan, homeFrom, noTable, notOf}
-use Rattle.house.specs.Sound.{Tables, View, Held, Good, Mapped, Sound, Words, entryOf, isPage}
-use Rattle.house.proofs.Facts.{withUses, withSlots, change-at, change-here, change-off, put-here, put-elsewhere, put-either, page-back}
-use Rattle.house.proofs.Uses.{good-leaving, home-to-leaving, settle-lent, uses-same, paged, pageless}
-use Rattle.house.proofs.Tables.{withLow, link, put-entry}
+use mathlib.Core.Bool.{cond, not}
+use mathlib.Core.Logic.{_⊎_, inl, ⊎-elim}
+use Prim.Native.Nat.{ℕ, _<_}
+use lib.Dec.{eqb, T, T-not}
+use Rattle.std.proofs.shelf.Tests.{eq-eqb}
+use Rattle.house.specs.Machine.{put}
+use Rattle.house.specs.Meaning.{Loan, Use, House, TableOf, Idle, Of, useAt, mapLoan, homeFrom, noTable, notOf}
+use Rattle.house.specs.Sound.{View, Words, isPage}
+use Rattle.house.proofs.Facts.{withUses, change-at, change-off, put-elsewhere}
+use Rattle.house.proofs.Uses.{pageless}
 
 -- a page has an owner, a place and a loan
 pub page-is : (x : Use) → T (isPage x) → (c : ℕ) × (u : ℕ) × (l : Loan) × (x ≡ Of c u l)
@@ -40,8 +37,14 @@ shut-page d (TableOf a) c u l e = subst pageless e (change-at pageless d a Idle 
 shut-page d Idle c u l e = subst pageless e tt
 shut-page d (Of a b m) c u l e = tt
 
-module _ (v : View) {word mem : ℕ → ℕ → ℕ} (w : Words v word mem) where
+gone-page : (o : ℕ) (x : Use) (c u : ℕ) (l : Loan) → notOf o x ≡ Of c u l → T (isPage x)
+unfolding notOf isPage
+gone-page o House c u l e = subst pageless e tt
+gone-page o (TableOf d) c u l e = subst pageless e tt
+gone-page o Idle c u l e = subst pageless e tt
+gone-page o (Of a b m) c u l e = tt
 
+module _ (v : View) {word mem : ℕ → ℕ → ℕ} (w : Words v word mem) where
   -- uses change; a page was one, or its words are those in memory
   pub words-uses : (what2 : ℕ → Use) → ((f c u : ℕ) (l : Loan) → f < v .frames → what2 f ≡ Of c u l → T (isPage (v .what f)) ⊎ ((k : ℕ) → k < 512 → word f k ≡ mem f k)) → Words (withUses what2 v) word mem
   words-uses what2 was f c u k l b e h =
@@ -51,8 +54,8 @@ module _ (v : View) {word mem : ℕ → ℕ → ℕ} (w : Words v word mem) wher
   pub words-use : (f : ℕ) (new : Use) → ((c u : ℕ) (l : Loan) → f < v .frames → new ≡ Of c u l → T (isPage (v .what f)) ⊎ ((k : ℕ) → k < 512 → word f k ≡ mem f k)) → Words (withUses (useAt f new (v .what)) v) word mem
   words-use f new was =
       words-uses (useAt f new (v .what)) (λ g c u l b. change-at (λ (x : Use). x ≡ Of c u l → T (isPage (v .what g)) ⊎ ((k : ℕ) → k < 512 → word g k ≡ mem g k)) g f new (v .what g)
-          (λ z e. subst (λ (x : ℕ). T (isPage (v .what x)) ⊎ ((k : ℕ) → k < 512 → word x k ≡ mem x k)) (sym z) (was c u l (subst (λ (x : ℕ). x < v .frames) z b) e))
-          (λ _ e. inl (is-page (v .what g) c u l e)))
+      (λ z e. subst (λ (x : ℕ). T (isPage (v .what x)) ⊎ ((k : ℕ) → k < 512 → word x k ≡ mem x k)) (sym z) (was c u l (subst (λ (x : ℕ). x < v .frames) z b) e))
+      (λ _ e. inl (is-page (v .what g) c u l e)))
 
   -- a page stays somebody's
   pub words-page : (f c u : ℕ) (l : Loan) (new : Use) → v .what f ≡ Of c u l → Words (withUses (useAt f new (v .what)) v) word mem
@@ -69,6 +72,9 @@ module _ (v : View) {word mem : ℕ → ℕ → ℕ} (w : Words v word mem) wher
   pub words-shut : (d : ℕ) → Words (withUses (λ f. noTable d (mapLoan (homeFrom d) (v .what f))) v) word mem
   words-shut d = words-uses (λ f. noTable d (mapLoan (homeFrom d) (v .what f))) (λ f c u l _ e. inl (shut-page d (v .what f) c u l e))
 
+  pub words-gone : (o : ℕ) → Words (withUses (λ f. notOf o (v .what f)) v) word mem
+  words-gone o = words-uses (λ f. notOf o (v .what f)) (λ f c u l _ e. inl (gone-page o (v .what f) c u l e))
+
   -- memory changes where there is no page
   pub words-mem : (mem2 : ℕ → ℕ → ℕ) → ((g k : ℕ) → T (isPage (v .what g)) → mem2 g k ≡ mem g k) → Words v word mem2
   words-mem mem2 same f c u k l b e h = w f c u k l b e h ∙ sym (same f k (is-page (v .what f) c u l e))
@@ -80,5 +86,5 @@ module _ (v : View) {word mem : ℕ → ℕ → ℕ} (w : Words v word mem) wher
   pub words-get : (f : ℕ) (new : Use) → ((k : ℕ) → k < 512 → mem f k ≡ 0) → Words (withUses (useAt f new (v .what)) v) (λ g k. cond (eqb g f) 0 (word g k)) mem
   words-get f new zeros g c u k l b =
       change-at (λ (x : Use). x ≡ Of c u l → k < 512 → cond (eqb g f) 0 (word g k) ≡ mem g k) g f new (v .what g)
-          (λ z e h. rw (eq-eqb g f z) (sym (ap (λ (y : ℕ). mem y k) z ∙ zeros k h)))
-          (λ n e h. change-off g f 0 (word g k) n ∙ w g c u k l b e h)
+      (λ z e h. rw (eq-eqb g f z) (sym (ap (λ (y : ℕ). mem y k) z ∙ zeros k h)))
+      (λ n e h. change-off g f 0 (word g k) n ∙ w g c u k l b e h)
