@@ -1,10 +1,16 @@
 pub mod Between
-pub mod Starting
 pub mod Clearing
 pub mod Counting
+pub mod Facts
 pub mod Known
+pub mod Lending
 pub mod Memory
+pub mod Pages
 pub mod Programs
 pub mod Rooms
 pub mod Shelf
+pub mod Shutting
+pub mod Starting
 pub mod Steps
+pub mod Tables
+pub mod Uses
