@@ -1,5 +1,5 @@
--- What happens, as one row of events: what the house is asked and answers, what programs see, what devices do.
--- Assumes nothing.
+-- Events: calls and their answers, what programs see at their places, what devices do, and what the IOMMU answered to drains.
+-- A history is a list of them, the newest first. Nothing is assumed here.
 use mathlib.Core.Bool.{Bool, true, false}
 use mathlib.Core.List.{List, [], _∷_}
 use Prim.Native.Nat.{ℕ, zero, suc}
@@ -7,18 +7,18 @@ use Rattle.house.specs.declared.Call.{Call}
 use Rattle.house.specs.declared.Answer.{Answer}
 
 pub data Event : Type 0 where
-  -- who asks what, and what is answered
+  -- a program makes a call, and is told its answer
   Asked : (who : ℕ) → Call → Event
   Told : (who : ℕ) → Call → Answer → Event
-  -- a program reads, writes, or finds nothing, at a place in its own space
+  -- a program loads x from a word, or stores x there, at place v of its address space; or nothing is mapped at v
   Loaded Stored : (who v word x : ℕ) → Event
   Faulted : (who v : ℕ) → Event
-  -- it reaches the registers of a device there
+  -- place v shows the registers of device d, and the program accesses them
   Poked : (who v d : ℕ) → Event
-  -- under the number of device d, at its page p, a word of a frame is read, or x is written there
+  -- an access in the name of device d, at its page p: x is read from a word of a frame, or written there
   TookFrom : (d p frame word x : ℕ) → Event
   PutInto : (d p frame word x : ℕ) → Event
-  -- a device found nothing at a page, or nothing that it may write
+  -- an access in the name of d at p found no mapping, or, for a write, none that may be written
   Missed : (d p : ℕ) → (writes : Bool) → Event
-  -- the machine was asked to forget a device, and said that it has, or that it hasn't yet
+  -- the IOMMU was asked to forget device d, and answered yes or no
   Drained : (d : ℕ) → Bool → Event

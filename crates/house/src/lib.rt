@@ -1,4 +1,4 @@
-// The machine, and the world that it stands in, as traits; and the house's rounds.
+// The keeper of an IOMMU: what it may ask of a machine, the world around it, and the loop that serves programs.
 ghost use mathlib.Core.Path.{_≡_};
 ghost use mathlib.Core.List.{List, [], _∷_};
 ghost use Prim.Native.Nat.{ℕ, _+_, _*_, _<_, _≤_};
@@ -6,106 +6,159 @@ ghost use lib.ListN.{length};
 ghost use lib.Dec.{T};
 ghost use Rattle.house.specs.Event.{Event, Told};
 ghost use Rattle.house.specs.Machine.{Hw, Frame, Registers, Nothing, AtStart, Steps, Drains, Comes, withMem, counted, put, shows, started};
-ghost use Rattle.house.specs.Meaning.{Explained};
-ghost use Rattle.house.specs.Promise.{can, roomOf, startOf, OnePlace, LentByDriver, HomeIsQuiet, NewIsNoughts, CoreBuilt};
+ghost use Rattle.house.specs.Meaning.{Explained, Quiet};
+ghost use Rattle.house.specs.Promise.{can, roomOf, startOf};
+ghost use Rattle.house.specs.Serving.{Keeps, Begins};
 
-// v: a place in one's own space, 1,024 of them; d: a device; p: a page of what a device sees, 262,144 of them.
+mod frames;
+
+use frames::clear;
+use ledger::setup::set_up;
+
+// the frame in which the device table is
+const DEVICE_TABLE: u32 = 0;
+
+// What a program may ask for. v, at: places of an address space, below 1,024; d: a device; p: a page of a device's own address
+// space, below 262,144; to, who: programs.
 #[derive(Clone, Copy)]
 pub enum Call {
-    Get { v: u32 },
-    Free { v: u32 },
-    Give { v: u32, to: u32, at: u32 },
-    Open { d: u32 },
-    Close { d: u32 },
-    Regs { d: u32, v: u32 },
-    Lend { v: u32, d: u32, p: u32, writes: bool },
-    Recall { v: u32 },
-    End { who: u32 },
+    Get {
+        v: u32,
+    },
+    Free {
+        v: u32,
+    },
+    Give {
+        v: u32,
+        to: u32,
+        at: u32,
+    },
+    Open {
+        d: u32,
+    },
+    Close {
+        d: u32,
+    },
+    Regs {
+        d: u32,
+        v: u32,
+    },
+    Lend {
+        v: u32,
+        d: u32,
+        p: u32,
+        writes: bool,
+    },
+    Recall {
+        v: u32,
+    },
+    End {
+        who: u32,
+    },
 }
 
 #[derive(Clone, Copy)]
-pub enum Answer { Done, Later, No(u32) }
+pub enum Answer {
+    Done,
+    Later,
+    No(u32),
+}
 
-// What the house may ask: memory, the unit through which devices reach it, what programs are shown.
-// In each call devices and the unit take any steps of theirs.
+// All that the keeper can reach: memory, what address spaces show, and the IOMMU. While one of these runs, devices and the IOMMU
+// take any number of steps of their own.
 pub trait Machine {
     ghost hw: { Self → Hw };
+
     ghost seen: { Self → List Event };
 
     fn frames(&self) -> u32
         ensures { λ r. ⌜ r ≡ hw (now (self .entry)) .frames ⌝ };
+
     fn devices(&self) -> u32
         ensures { λ r. ⌜ r ≡ hw (now (self .entry)) .devices ⌝ };
+
     fn group(&self, d: u32) -> u32
         ensures { λ r. ⌜ r ≡ hw (now (self .entry)) .group d ⌝ };
+
     fn driver(&self, d: u32) -> u32
         ensures { λ r. ⌜ r ≡ hw (now (self .entry)) .driver d ⌝ };
 
-    // a word of memory
+    // Writes one word of a frame.
     fn put(&mut self, frame: u32, word: u32, x: u64)
         requires { ⌜ 0 < hw (now self) .left ⌝ ∗ ⌜ frame < hw (now self) .frames ⌝ ∗ ⌜ word < 512 ⌝ }
         ensures { λ _. ⌜ Steps (counted (withMem (put frame word x (hw (now (self .entry)) .mem)) (hw (now (self .entry))))) (seen (now (self .entry))) (hw (now (self .exit))) (seen (now (self .exit))) ⌝ };
+    // Reads one word of a frame.
     fn get(&mut self, frame: u32, word: u32) -> u64
         requires { ⌜ 0 < hw (now self) .left ⌝ ∗ ⌜ frame < hw (now self) .frames ⌝ ∗ ⌜ word < 512 ⌝ }
         ensures { λ r. ⌜ r ≡ hw (now (self .entry)) .mem frame word ⌝ ∗ ⌜ Steps (counted (hw (now (self .entry)))) (seen (now (self .entry))) (hw (now (self .exit))) (seen (now (self .exit))) ⌝ };
 
-    // what a place in a program's space shows
+    // Maps a frame at a place of a program's address space.
     fn show(&mut self, who: u32, v: u32, frame: u32)
         requires { ⌜ 0 < hw (now self) .left ⌝ ∗ ⌜ who < 32 ⌝ ∗ ⌜ v < 1024 ⌝ ∗ ⌜ frame < hw (now self) .frames ⌝ }
         ensures { λ _. ⌜ Steps (counted (shows who v (Frame frame) (hw (now (self .entry))))) (seen (now (self .entry))) (hw (now (self .exit))) (seen (now (self .exit))) ⌝ };
+    // Maps the registers of a device there.
     fn show_registers(&mut self, who: u32, v: u32, d: u32)
         requires { ⌜ 0 < hw (now self) .left ⌝ ∗ ⌜ who < 32 ⌝ ∗ ⌜ v < 1024 ⌝ ∗ ⌜ d < hw (now self) .devices ⌝ }
         ensures { λ _. ⌜ Steps (counted (shows who v (Registers d) (hw (now (self .entry))))) (seen (now (self .entry))) (hw (now (self .exit))) (seen (now (self .exit))) ⌝ };
+    // Unmaps whatever is there.
     fn hide(&mut self, who: u32, v: u32)
         requires { ⌜ 0 < hw (now self) .left ⌝ ∗ ⌜ who < 32 ⌝ ∗ ⌜ v < 1024 ⌝ }
         ensures { λ _. ⌜ Steps (counted (shows who v Nothing (hw (now (self .entry))))) (seen (now (self .entry))) (hw (now (self .exit))) (seen (now (self .exit))) ⌝ };
 
-    // from now on the unit lets through what the tables say
+    // Starts the IOMMU: until now it lets nothing through, from now on what its tables say.
     fn start(&mut self)
         requires { ⌜ 0 < hw (now self) .left ⌝ }
         ensures { λ _. ⌜ Steps (counted (started (hw (now (self .entry))))) (seen (now (self .entry))) (hw (now (self .exit))) (seen (now (self .exit))) ⌝ };
-    // forget all that is known of a device, and wait for what is under way; says whether that has happened
+    // Asks the IOMMU to drop all that it keeps of a device and to finish what is under way; says whether it has.
     fn drain(&mut self, d: u32) -> bool
         requires { ⌜ 0 < hw (now self) .left ⌝ ∗ ⌜ d < hw (now self) .devices ⌝ }
         ensures { λ r. ⌜ Drains d (hw (now (self .entry))) (seen (now (self .entry))) r (hw (now (self .exit))) (seen (now (self .exit))) ⌝ };
 }
 
-// What the house doesn't see: programs, and what they're told.
+// What the keeper has no way to: the programs, and what they are told.
 pub trait World: Machine {
-    // programs run, until one asks, or all is over
+    // Programs run until one of them asks for something, or until there is no more to come.
     fn next(&mut self) -> Option<(u32, Call)>
         ensures { λ r. ⌜ Comes (hw (now (self .entry))) (seen (now (self .entry))) r (hw (now (self .exit))) (seen (now (self .exit))) ⌝ };
-    // What is answered, it may be answered, and all that has happened may have happened: that is the promise.
+    // Tells the answer. It may be told only if it and all that has happened before is explained: that is the promise.
     fn told(&mut self, who: u32, c: Call, a: Answer)
         requires { ⌜ Explained can (startOf (hw (now self))) (Told who c a ∷ seen (now self)) ⌝ }
         ensures { λ _. ⌜ hw (now (self .exit)) ≡ hw (now (self .entry)) ⌝ ∗ ⌜ seen (now (self .exit)) ≡ Told who c a ∷ seen (now (self .entry)) ⌝ };
 }
 
-// YOURS: what the house keeps beside the room.
+// What the keeper has beside the room that is lent to it.
 #[derive(Drop)]
-pub struct Keeper { pub frames: u32 }
+pub struct Keeper {
+    // where the next search for an idle frame begins
+    next: u32,
+}
 
-// YOURS. It sets up the tables, and starts the unit.
+// Sets up the room, makes the device table empty, and only then starts the IOMMU.
 pub fn boot<M: Machine>(w: &mut M, room: &mut [u64]) -> Keeper
     requires soon { ⌜ 2048 ≤ hw (now w) .left ⌝ }
+    requires starts { ⌜ AtStart (hw (now w)) ⌝ }
+    requires unseen { ⌜ seen (now w) ≡ [] ⌝ }
+    requires lent { ⌜ roomOf (hw (now w) .frames) ≤ length (now room) ⌝ }
+    ensures { λ _. ⌜ Keeps (now (room .exit)) Quiet (hw (now (w .exit))) (seen (now (w .exit))) ⌝ }
 {
-    let _n = room.len();
-    Keeper { frames: w.frames() }
+    set_up(room, w.frames());
+    clear(w, DEVICE_TABLE);
+    w.start();
+    Keeper { next: 1 }
 }
 
 impl Keeper {
-    // YOURS
+    // Serves one call of a program. As no call is built, each is answered by 9.
     pub fn serve<M: Machine>(&mut self, w: &mut M, room: &mut [u64], who: u32, c: Call) -> Answer
         requires soon { ⌜ 2048 ≤ hw (now w) .left ⌝ }
+        requires begins { ⌜ Begins (now room) who c (hw (now w)) (seen (now w)) ⌝ }
+        ensures { λ r. ⌜ Keeps (now (room .exit)) Quiet (hw (now (w .exit))) (Told who c r ∷ seen (now (w .exit))) ⌝ }
     {
-        let _c = c;
-        let _n = room.len();
-        self.frames = w.frames();
-        Answer::No(who)
+        Answer::No(9)
     }
 }
 
-// THE MAIN PROMISE. Whatever programs ask and do, and whatever devices do.
+// The main theorem: whatever programs ask and do, and whatever devices and the IOMMU do, what is told is explained.
 pub fn rounds<W: Machine + World>(w: &mut W, room: &mut [u64], turns: u64)
     requires starts { ⌜ AtStart (hw (now w)) ⌝ }
     requires unseen { ⌜ seen (now w) ≡ [] ⌝ }
@@ -127,35 +180,9 @@ pub fn rounds<W: Machine + World>(w: &mut W, room: &mut [u64], turns: u64)
     }
 }
 
-// The house's own value is small; what is large is lent.
+// The keeper's own value is small; what is large is lent.
 pub fn keeper_is_small() -> bool
     ensures { λ r. ⌜ T r ⌝ }
 {
     std::mem::size_of::<Keeper>() <= 4096
-}
-
-// What the first landings build is never taken back.
-pub fn core_built() -> u8
-    ensures { λ _. ⌜ CoreBuilt ⌝ }
-{
-    0
-}
-
-// What is promised beside, each a theorem that a contract names.
-pub fn one_place() -> u8
-    ensures { λ _. ⌜ OnePlace ⌝ }
-{
-    0
-}
-
-pub fn lent_by_driver() -> u8
-    ensures { λ _. ⌜ LentByDriver ⌝ }
-{
-    0
-}
-
-pub fn home_is_quiet() -> u8
-    ensures { λ _. ⌜ HomeIsQuiet ⌝ ∗ ⌜ NewIsNoughts ⌝ }
-{
-    0
 }

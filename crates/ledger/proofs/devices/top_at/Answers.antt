@@ -1,0 +1,5 @@
+use Rattle.ledger.proofs.Entries.{read-top}
+use Rattle.ledger.proofs.devices.top_at.Needs as need
+
+pub returns : need.returns
+returns c = read-top (c .args .room .now) (c .args .d) (c .pre .1)

@@ -1,0 +1,64 @@
+// The state of each device, and the frame of its upper table.
+ghost use mathlib.Core.Path.{_≡_};
+ghost use Prim.Native.Nat.{ℕ, _<_, _≤_};
+ghost use lib.ListN.{length};
+ghost use Rattle.ledger.specs.Words.{DeviceFits, deviceFrom, deviceWord};
+ghost use Rattle.ledger.specs.Room.{deviceOf, topOf};
+ghost use Rattle.ledger.specs.View.{viewOf, withDevice, withTop};
+use crate::Device;
+use crate::layout::DEVICE_STATES;
+
+pub fn device_at(room: &[u64], d: u32) -> Device
+    requires { ⌜ 65536 ≤ length (now room) ⌝ ∗ ⌜ d < 32 ⌝ }
+    ensures { λ r. ⌜ r ≡ deviceOf (now (room .entry)) d ⌝ }
+{
+    read(room[DEVICE_STATES + 2 * d as usize])
+}
+
+pub fn set_device(room: &mut [u64], d: u32, state: Device)
+    requires { ⌜ 65536 ≤ length (now room) ⌝ ∗ ⌜ d < 32 ⌝ ∗ ⌜ DeviceFits state ⌝ }
+    ensures { λ _. ⌜ ((n : ℕ) → viewOf n (now (room .exit)) ≡ withDevice d state (viewOf n (now (room .entry)))) ⌝ }
+{
+    room[DEVICE_STATES + 2 * d as usize] = word(state);
+}
+
+// The frame of the upper table of d; 0 where none is noted.
+pub fn top_at(room: &[u64], d: u32) -> u32
+    requires { ⌜ 65536 ≤ length (now room) ⌝ ∗ ⌜ d < 32 ⌝ }
+    ensures { λ r. ⌜ r ≡ topOf (now (room .entry)) d ⌝ }
+{
+    (room[DEVICE_STATES + 2 * d as usize + 1] % 131072) as u32
+}
+
+pub fn set_top(room: &mut [u64], d: u32, f: u32)
+    requires { ⌜ 65536 ≤ length (now room) ⌝ ∗ ⌜ d < 32 ⌝ ∗ ⌜ f < 131072 ⌝ }
+    ensures { λ _. ⌜ ((n : ℕ) → viewOf n (now (room .exit)) ≡ withTop d f (viewOf n (now (room .entry)))) ⌝ }
+{
+    room[DEVICE_STATES + 2 * d as usize + 1] = f as u64;
+}
+
+fn word(state: Device) -> u64
+    requires { ⌜ DeviceFits state ⌝ }
+    ensures word { λ r. ⌜ r ≡ deviceWord state ⌝ }
+    ensures inverse { λ r. ⌜ deviceFrom r ≡ state ⌝ }
+{
+    match state {
+        Device::Shut => 0,
+        Device::Opened(who) => 1 + 2 * who as u64,
+        Device::Closing(who) => 2 + 2 * who as u64,
+    }
+}
+
+fn read(word: u64) -> Device
+    ensures { λ r. ⌜ r ≡ deviceFrom word ⌝ }
+{
+    if word == 0 {
+        return Device::Shut;
+    }
+    let who = ((word - 1) / 2 % 32) as u32;
+    if (word - 1) % 2 == 1 {
+        Device::Closing(who)
+    } else {
+        Device::Opened(who)
+    }
+}
