@@ -1,2 +1,6 @@
+pub mod Complete
 pub mod Cuts
 pub mod Digits
+pub mod Saturated
+pub mod Sound
+pub mod Steps
