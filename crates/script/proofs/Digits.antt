@@ -21,7 +21,7 @@ number-some [] h = absurd (omega arith)
 number-some (c ∷ cs) h = refl
 
 is-digit : (c : ℕ) → 48 ≤ c → c ≤ 57 → asciiDigit c ≡ true
-is-digit c low high = rw (le-leb, le-leb)
+is-digit c low high = rw (le-leb 48 c low, le-leb c 57 high)
 
 no-digit : (c : ℕ) → (c < 48) ⊎ (57 < c) → asciiDigit c ≡ false
 no-digit c (inl h) = and-left _ _ (lt-leb 48 c h)

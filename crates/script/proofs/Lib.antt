@@ -1,5 +1,6 @@
 pub mod Complete
 pub mod Cuts
+pub mod Decimals
 pub mod Digits
 pub mod Saturated
 pub mod Sound

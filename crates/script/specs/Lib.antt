@@ -5,3 +5,4 @@ pub mod Parser
 pub mod Parts
 pub mod Sizes
 pub mod Spaces
+pub mod Texts
