@@ -1,6 +1,7 @@
 mod Accesses
 mod Asked
 mod Forgets
+mod Lines
 mod Listed
 mod Owed
 mod Tricks

@@ -5,3 +5,4 @@ pub mod Parts
 pub mod View
 pub mod Walks
 pub mod Effects
+pub mod Heard

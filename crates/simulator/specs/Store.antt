@@ -1,8 +1,9 @@
 -- Memory and spaces as words: what each word is.
 -- Assumes nothing.
+use mathlib.Core.Path.{_≡_}
 use mathlib.Core.Bool.{Bool, true, false, cond, _&&_}
 use mathlib.Core.List.{List, [], _∷_}
-use Prim.Native.Nat.{ℕ, zero, suc, _+_, _-_, _*_, _%_}
+use Prim.Native.Nat.{ℕ, zero, suc, _+_, _-_, _*_, _%_, _<_}
 use lib.Dec.{eqb, ltb, leb}
 use lib.ListN.{getD, length}
 use Rattle.house.specs.Machine.{Shown, Nothing, Frame, Registers}
@@ -21,11 +22,11 @@ shownOf n w = cond (eqb w 0) Nothing (cond (leb w n) (Frame (w - 1)) (cond (leb 
 abbrev pub spaceOf : ℕ → List ℕ → ℕ → ℕ → Shown
 spaceOf n ws c v = cond (ltb c 32) (cond (ltb v 1024) (shownOf n (getD ws (1024 * c + v) 0)) Nothing) Nothing
 
--- what code calls a view
-abbrev pub viewOf : View → Shown
-viewOf Hidden = Nothing
-viewOf (Page f) = Frame f
-viewOf (Regs d) = Registers d
+-- what code calls a view, of n frames
+abbrev pub Viewed : ℕ → View → Shown → Type 0
+Viewed n Hidden s = Nothing ≡ s
+Viewed n (Page f) s = (Frame f ≡ s) × (f < n)
+Viewed n (Regs d) s = Registers d ≡ s
 
 abbrev pub noDevice : Device
 noDevice = record { group = 0; driver = 0 }

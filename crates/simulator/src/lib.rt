@@ -5,5 +5,6 @@ pub mod kept;
 mod lists;
 pub mod log;
 pub mod memory;
+pub mod replies;
 pub mod rows;
 pub mod spaces;

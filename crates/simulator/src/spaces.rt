@@ -3,7 +3,7 @@ ghost use mathlib.Core.Path.{_≡_};
 ghost use Prim.Native.Nat.{ℕ, _+_, _*_, _<_, _≤_};
 ghost use lib.ListN.{length, set};
 ghost use denote.Ref.{now};
-ghost use Rattle.simulator.specs.Store.{spaceOf, viewOf};
+ghost use Rattle.simulator.specs.Store.{spaceOf, Viewed};
 
 // What a place shows: nothing, a page in a frame, a device's registers.
 #[derive(Clone, Copy)]
@@ -23,7 +23,7 @@ impl<'a> Spaces<'a> {
     // What a place shows, if there are so many frames.
     pub fn view(&self, who: u32, v: u32, frames: u32) -> View
         requires { ⌜ who < 32 ⌝ ∗ ⌜ v < 1024 ⌝ ∗ ⌜ frames ≤ 65536 ⌝ }
-        ensures { λ r. ⌜ viewOf r ≡ spaceOf frames (now (now (self .entry) .words)) who v ⌝ }
+        ensures { λ r. ⌜ Viewed frames r (spaceOf frames (now (now (self .entry) .words)) who v) ⌝ }
     {
         let w = self.words[1024 * who as usize + v as usize];
         if w == 0 {
