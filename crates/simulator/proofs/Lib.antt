@@ -1,5 +1,6 @@
 mod Accesses
 mod Asked
+mod Devices
 mod Forgets
 mod Lines
 mod Listed

@@ -15,6 +15,7 @@ use crate::spaces::Spaces;
 mod accesses;
 mod asked;
 mod drains;
+mod lines;
 mod programs;
 mod tricks;
 mod walks;

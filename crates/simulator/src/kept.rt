@@ -5,7 +5,10 @@ ghost use lib.ListN.{length};
 ghost use denote.Ref.{now};
 ghost use mathlib.Core.List.{[], List·Memᴰ};
 ghost use Rattle.house.specs.Machine.{dropOne};
-ghost use Rattle.simulator.specs.Lists.{newest, among, learnt, without};
+ghost use Rattle.simulator.specs.Lists.{newest, among, learnt, without, deviceIn, placeIn};
+ghost use Rattle.std.specs.Options.{Cases};
+use crate::lists::DEVICE;
+use crate::lists::PLACE;
 use crate::lists::Words;
 
 #[derive(Drop)]
@@ -35,6 +38,19 @@ impl<'a> Kept<'a> {
         ensures { λ r. ⌜ List·Memᴰ r (newest 0 (now (now (self .entry) .words .all)) (now (self .entry) .count)) ⌝ }
     {
         self.words.all[i]
+    }
+
+    // The newest that is of device `d` and its page `p`.
+    pub fn find(&self, d: u32, p: u32) -> Option<u64>
+        ensures { λ r. ⌜ Cases r (Unit {0}) (λ w. (deviceIn w ≡ d) × (placeIn w ≡ p) × List·Memᴰ w (newest 0 (now (now (self .entry) .words .all)) (now (self .entry) .count))) ⌝ }
+    {
+        for i in (0..self.count).rev() {
+            let w = self.at(i);
+            if w / DEVICE == d as u64 && w / PLACE % PLACE == p as u64 {
+                return Some(w);
+            }
+        }
+        None
     }
 
     // Keeps one more, unless it has it or there is no room; says whether it has it then.
