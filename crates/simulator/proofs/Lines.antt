@@ -5,8 +5,10 @@ use mathlib.Core.List.{List, [], _∷_, _++_, map}
 use Prim.Native.Nat.{ℕ, zero, suc, _+_, _-_, _*_, _<_, _≤_}
 use native.Mathlib.Omega.{arith}
 use lib.ListN.{length, set}
-use Rattle.house.specs.Event.{Event, Loaded, Stored, Faulted, Poked}
-use Rattle.house.specs.Machine.{Hw, Shown, Nothing, Frame, Registers, Step, Steps, none, more, Runs, rest, device, loads, stores, pokes, faults, withMem, put}
+use Rattle.std.specs.declared.option.Option.the-variants.{Some}
+use Rattle.house.specs.declared.Call.{Call}
+use Rattle.house.specs.Event.{Event, Asked, Loaded, Stored, Faulted, Poked}
+use Rattle.house.specs.Machine.{Hw, Shown, Nothing, Frame, Registers, Step, Steps, none, more, Runs, rest, device, loads, stores, pokes, faults, withMem, put, Comes, comes, allowed}
 use Rattle.script.specs.declared.forms.Line.the-variants as line
 use Rattle.script.specs.declared.forms.Line.{Line}
 use Rattle.script.specs.declared.outcomes.Outcome.{Outcome}
@@ -91,3 +93,9 @@ module _ (p q : Parts) (n : Note) (c v k : ℕ) (fr : ℕ) (a : Noting p q n) (l
 -- a line out of range
 pub beyond-range : (p : Parts) (l : Line) → Ran p p × Heard (seenOf p) l (say.No 1) (seenOf p)
 beyond-range p l = (rest (hwOf p) (seenOf p), heard.beyond l)
+
+-- a call is asked
+pub asked-comes : (p : Parts) (n : Note) (ns : List Note) (c : ℕ) (k : Call) → c < 32 → eventOf n ≡ Asked c k → ns ≡ n ∷ p .notes →
+  Comes (hwOf p) (seenOf p) (Some (c, k)) (allowed 2048 (hwOf p)) (map eventOf ns)
+asked-comes p n ns c k lc e f =
+    subst (λ (es : List Event). Comes (hwOf p) (seenOf p) (Some (c, k)) (allowed 2048 (hwOf p)) es) (sym (ap (map eventOf) f ∙ ap (λ x. x ∷ seenOf p) e)) (comes c k lc (rest (hwOf p) (seenOf p)))

@@ -14,6 +14,7 @@ use crate::spaces::Spaces;
 
 mod accesses;
 mod asked;
+mod asks;
 mod drains;
 mod lines;
 mod programs;

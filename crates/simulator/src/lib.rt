@@ -1,10 +1,12 @@
 // A machine in memory that plays all the tricks that the unit and devices may play.
 pub mod board;
 pub mod dice;
+pub mod ends;
 pub mod kept;
 mod lists;
 pub mod log;
 pub mod memory;
 pub mod replies;
 pub mod rows;
+pub mod sim;
 pub mod spaces;
