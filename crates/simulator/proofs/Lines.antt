@@ -5,10 +5,11 @@ use mathlib.Core.List.{List, [], _∷_, _++_, map}
 use Prim.Native.Nat.{ℕ, zero, suc, _+_, _-_, _*_, _<_, _≤_}
 use native.Mathlib.Omega.{arith}
 use lib.ListN.{length, set}
+use Rattle.std.specs.declared.option.Option.{Option}
 use Rattle.std.specs.declared.option.Option.the-variants.{Some}
 use Rattle.house.specs.declared.Call.{Call}
 use Rattle.house.specs.Event.{Event, Asked, Loaded, Stored, Faulted, Poked}
-use Rattle.house.specs.Machine.{Hw, Shown, Nothing, Frame, Registers, Step, Steps, none, more, Runs, rest, device, loads, stores, pokes, faults, withMem, put, Comes, comes, allowed}
+use Rattle.house.specs.Machine.{Hw, Shown, Nothing, Frame, Registers, Step, Steps, none, more, Runs, rest, device, loads, stores, pokes, faults, withMem, put, Comes, comes, over, allowed}
 use Rattle.script.specs.declared.forms.Line.the-variants as line
 use Rattle.script.specs.declared.forms.Line.{Line}
 use Rattle.script.specs.declared.outcomes.Outcome.{Outcome}
@@ -99,3 +100,8 @@ pub asked-comes : (p : Parts) (n : Note) (ns : List Note) (c : ℕ) (k : Call) �
   Comes (hwOf p) (seenOf p) (Some (c, k)) (allowed 2048 (hwOf p)) (map eventOf ns)
 asked-comes p n ns c k lc e f =
     subst (λ (es : List Event). Comes (hwOf p) (seenOf p) (Some (c, k)) (allowed 2048 (hwOf p)) es) (sym (ap (map eventOf) f ∙ ap (λ x. x ∷ seenOf p) e)) (comes c k lc (rest (hwOf p) (seenOf p)))
+
+-- what comes after some running comes
+pub ran-comes : {h i j : Hw} {es fs gs : List Event} {o : Option (ℕ × Call)} → Runs h es i fs → Comes i fs o j gs → Comes h es o j gs
+ran-comes r (comes c k l s) = comes c k l (runs-then r s)
+ran-comes r (over s) = over (runs-then r s)

@@ -21,6 +21,7 @@ use Rattle.simulator.specs.declared.replies.Reply.{Reply}
 use Rattle.simulator.specs.declared.replies.Reply.the-variants.{Says, Quiet, Asks, Full}
 use Rattle.simulator.specs.Parts.{Parts, hwOf, seenOf, Ran}
 use Rattle.simulator.specs.Effects.{Same}
+use Rattle.std.specs.Orderings.{When}
 
 -- a line's request is this call
 abbrev pub callOf : Request → Call
@@ -79,3 +80,23 @@ Replied l p (Says o) q = Ran p q × Heard (seenOf p) l o (seenOf q)
 Replied l p Quiet q = Same p q
 Replied l p (Asks c k) q = Comes (hwOf p) (seenOf p) (Some (c, k)) (hwOf q) (seenOf q) × ((r : Request) × (l ≡ line.Call c r) × (k ≡ callOf r))
 Replied l p Full q = Same p q
+
+-- `no`, `seed` and `new` print nothing
+abbrev pub printsOf : Line → Bool
+printsOf (line.Call c r) = true
+printsOf (line.Store c v k x) = true
+printsOf (line.Load c v k) = true
+printsOf (line.Read d p k) = true
+printsOf (line.Write d p k x) = true
+printsOf (line.Keep d p) = true
+printsOf (line.Kept d p k x) = true
+printsOf (line.Refuse n) = false
+printsOf (line.Seed s) = false
+printsOf line.New = false
+
+-- what is handed to a script for a reply: at most one outcome
+abbrev pub HandedOver : {S : Type 0} → (S → Outcome → S → Type 0) → S → Line → Reply → S → Type 0
+HandedOver handed s l (Says o) t = handed s o t
+HandedOver handed s l Quiet t = t ≡ s
+HandedOver handed s l (Asks c k) t = t ≡ s
+HandedOver handed s l Full t = When (printsOf l) (handed s say.Over t) (t ≡ s)

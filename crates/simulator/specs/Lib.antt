@@ -6,3 +6,4 @@ pub mod View
 pub mod Walks
 pub mod Effects
 pub mod Heard
+pub mod Turns

@@ -1,8 +1,9 @@
 // What the machine replies to a line of a script.
 ghost use mathlib.Core.Path.{_≡_};
-ghost use Rattle.simulator.specs.Heard.{callOf, answered};
+ghost use Rattle.simulator.specs.Heard.{callOf, answered, printsOf};
 use house::Answer;
 use house::Call;
+use script::Line;
 use script::Outcome;
 use script::Request;
 
@@ -42,5 +43,15 @@ pub fn said(a: Answer) -> Outcome
         Answer::Done => Outcome::Done,
         Answer::Later => Outcome::Later,
         Answer::No(n) => Outcome::No(n),
+    }
+}
+
+// Is something printed for it?
+pub fn prints(line: Line) -> bool
+    ensures { λ r. ⌜ r ≡ printsOf line ⌝ }
+{
+    match line {
+        Line::Refuse { .. } | Line::Seed { .. } | Line::New => false,
+        _ => true,
     }
 }

@@ -1,14 +1,18 @@
 // A machine that plays a script: what the keeper may ask, and the programs of the script.
 ghost use mathlib.Core.Path.{_≡_};
 ghost use mathlib.Core.List.{_∷_};
-ghost use Rattle.house.specs.Machine.{Comes};
 ghost use Rattle.simulator.specs.Parts.{hwOf, seenOf};
 ghost use Rattle.simulator.specs.View.{partsOf};
-ghost use Rattle.simulator.specs.Heard.{answered};
+ghost use Rattle.simulator.specs.Heard.{Replied, HandedOver, outcomeOf};
+ghost use Rattle.simulator.specs.Turns.{Turned};
+ghost use Rattle.house.specs.Event.{Told};
+ghost use Rattle.house.specs.Meaning.{Explained};
+ghost use Rattle.house.specs.Promise.{can, startOf};
 use crate::board::Board;
 use crate::ends::Item;
 use crate::ends::Script;
 use crate::replies::Reply;
+use crate::replies::prints;
 use crate::replies::said;
 use house::Answer;
 use house::Call;
@@ -30,11 +34,80 @@ pub enum Ended {
     Full,
 }
 
+// What a line brought: it goes on, a program asks, or all is over.
+#[derive(Clone, Copy)]
+enum Turn {
+    On,
+    Asks(u32, Call),
+    Over,
+}
+
 #[derive(Drop)]
 pub struct Sim<'a, S> {
     pub board: Board<'a>,
     pub script: S,
     pub ended: Ended,
+}
+
+impl<'a, S: Script> Sim<'a, S> {
+    // One line is played, and what is said of it is handed over.
+    fn play_line(&mut self, line: Line) -> Reply
+        ensures board { λ r. ⌜ Replied line (partsOf (now (self .entry) .board)) r (partsOf (now (self .exit) .board)) ⌝ }
+        ensures script { λ r. ⌜ HandedOver (S·Script .handed) (now (self .entry) .script) line r (now (self .exit) .script) ⌝ }
+    {
+        let reply = self.board.answer(line);
+        match reply {
+            Reply::Says(o) => self.script.outcome(o),
+            Reply::Full => {
+                if prints(line) {
+                    self.script.outcome(Outcome::Over);
+                }
+            }
+            _ => {}
+        }
+        reply
+    }
+
+    // Tricks, and then the next line of the script.
+    fn turn(&mut self) -> Turn
+        ensures { λ r. ⌜ Turned (partsOf (now (self .entry) .board)) r (partsOf (now (self .exit) .board)) ⌝ }
+    {
+        self.board.play();
+        match self.script.line() {
+            Item::Line(Line::New) => {
+                self.ended = Ended::New;
+                Turn::Over
+            }
+            Item::Line(line) => match self.play_line(line) {
+                Reply::Says(_) => Turn::On,
+                Reply::Quiet => Turn::On,
+                Reply::Asks(who, call) => Turn::Asks(who, call),
+                Reply::Full => {
+                    self.ended = Ended::Full;
+                    Turn::Over
+                }
+            },
+            Item::Bad(k) => {
+                self.script.outcome(Outcome::BadLine(k));
+                Turn::On
+            }
+            Item::End => {
+                self.ended = Ended::Script;
+                Turn::Over
+            }
+        }
+    }
+
+    // An answer is noted, and handed over.
+    fn hand_answer(&mut self, who: u32, c: Call, a: Answer)
+        requires { ⌜ Explained can (startOf (hwOf (partsOf (now self .board)))) (Told who c a ∷ seenOf (partsOf (now self .board))) ⌝ }
+        ensures hw { λ _. ⌜ hwOf (partsOf (now (self .exit) .board)) ≡ hwOf (partsOf (now (self .entry) .board)) ⌝ }
+        ensures seen { λ _. ⌜ seenOf (partsOf (now (self .exit) .board)) ≡ Told who c a ∷ seenOf (partsOf (now (self .entry) .board)) ⌝ }
+        ensures script { λ _. ⌜ S·Script .handed (now (self .entry) .script) (outcomeOf (Told who c a)) (now (self .exit) .script) ⌝ }
+    {
+        self.board.tell(who, c, a);
+        self.script.outcome(said(a));
+    }
 }
 
 pub impl<'a, S: Script> Machine for Sim<'a, S> as SimMachine {
@@ -84,5 +157,22 @@ pub impl<'a, S: Script> Machine for Sim<'a, S> as SimMachine {
 
     fn drain(&mut self, d: u32) -> bool {
         self.board.drain(d)
+    }
+}
+
+pub impl<'a, S: Script> World for Sim<'a, S> as SimWorld {
+    fn next(&mut self) -> Option<(u32, Call)> {
+        for _ in 0..u64::MAX {
+            match self.turn() {
+                Turn::On => {}
+                Turn::Asks(who, call) => return Some((who, call)),
+                Turn::Over => return None,
+            }
+        }
+        None
+    }
+
+    fn told(&mut self, who: u32, c: Call, a: Answer) {
+        self.hand_answer(who, c, a);
     }
 }
