@@ -93,3 +93,8 @@ pub room-told : (n : Note) (ns ms : List Note) (c : ℕ) (k : Call) (b : Answer)
 unfolding owed
 room-told n ns ms c k b count count' left len a e f q l =
     let o : owed (map eventOf ms) ≡ 0 = ap (λ (us : List Note). owed (map eventOf us)) e ∙ ap (λ (x : Event). owed (x ∷ map eventOf ns)) a in omega arith
+
+-- at the start nothing is owed but the askings of setting up
+pub room-start : (ns : List Note) (count len : ℕ) → ns ≡ [] → count + 2048 ≤ len → count + 2048 + owed (map eventOf ns) ≤ len
+unfolding owed
+room-start ns count len e l = let o : owed (map eventOf ns) ≡ 0 = ap (λ (us : List Note). owed (map eventOf us)) e in omega arith

@@ -83,3 +83,7 @@ group-past ds d l = sym (ap (λ (x : Device). x .group % 32) (getD-past ds d noD
 
 pub driver-past : (ds : List Device) (d : ℕ) → length ds ≤ d → 0 ≡ driverOf ds d
 driver-past ds d l = sym (ap (λ (x : Device). x .driver % 32) (getD-past ds d noDevice l))
+
+-- what is 0 as far as it goes is 0 beyond
+pub all-noughts : (ws : List ℕ) → ((k : ℕ) → k < length ws → getD ws k 0 ≡ 0) → (k : ℕ) → getD ws k 0 ≡ 0
+all-noughts ws h k = ⊎-elim (h k) (getD-past ws k 0) (cases-lt k (length ws))

@@ -7,3 +7,4 @@ pub mod Walks
 pub mod Effects
 pub mod Heard
 pub mod Turns
+pub mod Fit

@@ -1,5 +1,6 @@
 // The machine: memory, spaces, what the unit keeps, and all that happened, each in lent memory.
-ghost use Prim.Native.Nat.{_+_, _≤_};
+ghost use mathlib.Core.Path.{_≡_};
+ghost use Prim.Native.Nat.{_+_, _*_, _≤_};
 ghost use lib.ListN.{length};
 ghost use denote.Ref.{now};
 ghost use mathlib.Core.List.{map};
@@ -17,6 +18,7 @@ mod asked;
 mod asks;
 mod drains;
 mod lines;
+mod made;
 mod programs;
 mod tricks;
 mod walks;
@@ -36,6 +38,13 @@ pub struct Board<'a> {
     log: Log<'a>,
     dice: Dice,
     refusals: u64,
+    ghost words: { length (now (memory .words)) ≡ 512 * memory .frames },
+    ghost frames: { memory .frames ≤ 65536 },
+    ghost places: { length (now (spaces .words)) ≡ 32768 },
     ghost few: { length (now devices) ≤ 32 },
+    ghost uppers: { ups .count ≤ length (now (ups .words .all)) },
+    ghost lowers: { mids .count ≤ length (now (mids .words .all)) },
+    ghost pages: { leaves .count ≤ length (now (leaves .words .all)) },
+    ghost accesses: { flying .count ≤ length (now (flying .words .all)) },
     ghost room: { log .count + left + owed (map eventOf (newest blank (now (log .notes)) (log .count))) ≤ length (now (log .notes)) },
 }

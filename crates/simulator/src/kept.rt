@@ -2,7 +2,6 @@
 ghost use mathlib.Core.Path.{_≡_};
 ghost use Prim.Native.Nat.{_-_, _<_, _≤_};
 ghost use lib.ListN.{length};
-ghost use denote.Ref.{now};
 ghost use mathlib.Core.List.{[], List·Memᴰ};
 ghost use Rattle.house.specs.Machine.{dropOne};
 ghost use Rattle.simulator.specs.Lists.{newest, among, learnt, without, deviceIn, placeIn};
@@ -15,13 +14,12 @@ use crate::lists::Words;
 pub struct Kept<'a> {
     words: Words<'a>,
     count: usize,
-    ghost ok: { count ≤ length (now (words .all)) },
 }
 
 impl<'a> Kept<'a> {
     // Nothing kept yet.
     pub fn new(words: &'a mut [u64]) -> Self
-        ensures { λ r. ⌜ newest 0 (now (r .words .all)) (r .count) ≡ [] ⌝ }
+        ensures { λ r. ⌜ newest 0 (now (r .words .all)) (r .count) ≡ [] ⌝ ∗ ⌜ r .count ≡ 0 ⌝ }
     {
         Kept { words: Words { all: words }, count: 0 }
     }
@@ -34,7 +32,7 @@ impl<'a> Kept<'a> {
 
     // The one at place `i`, the oldest being at 0.
     pub fn at(&self, i: usize) -> u64
-        requires { ⌜ i < now self .count ⌝ }
+        requires { ⌜ now self .count ≤ length (now (now self .words .all)) ⌝ ∗ ⌜ i < now self .count ⌝ }
         ensures { λ r. ⌜ List·Memᴰ r (newest 0 (now (now (self .entry) .words .all)) (now (self .entry) .count)) ⌝ }
     {
         self.words.all[i]
@@ -42,6 +40,7 @@ impl<'a> Kept<'a> {
 
     // The newest that is of device `d` and its page `p`.
     pub fn find(&self, d: u32, p: u32) -> Option<u64>
+        requires { ⌜ now self .count ≤ length (now (now self .words .all)) ⌝ }
         ensures { λ r. ⌜ Cases r (Unit {0}) (λ w. (deviceIn w ≡ d) × (placeIn w ≡ p) × List·Memᴰ w (newest 0 (now (now (self .entry) .words .all)) (now (self .entry) .count))) ⌝ }
     {
         for i in (0..self.count).rev() {
@@ -55,8 +54,10 @@ impl<'a> Kept<'a> {
 
     // Keeps one more, unless it has it or there is no room; says whether it has it then.
     pub fn learn(&mut self, w: u64) -> bool
+        requires { ⌜ now self .count ≤ length (now (now self .words .all)) ⌝ }
         ensures list { λ _. ⌜ newest 0 (now (now (self .exit) .words .all)) (now (self .exit) .count) ≡ learnt w (now (self .entry) .count) (length (now (now (self .entry) .words .all))) (newest 0 (now (now (self .entry) .words .all)) (now (self .entry) .count)) ⌝ }
         ensures has { λ r. ⌜ r ≡ among w (newest 0 (now (now (self .exit) .words .all)) (now (self .exit) .count)) ⌝ }
+        ensures within { λ _. ⌜ now (self .exit) .count ≤ length (now (now (self .exit) .words .all)) ⌝ }
     {
         let n = self.count;
         if self.words.holds(n, w) {
@@ -72,8 +73,9 @@ impl<'a> Kept<'a> {
 
     // Forgets the one at place `i`.
     pub fn remove(&mut self, i: usize)
-        requires { ⌜ i < now self .count ⌝ }
-        ensures { λ _. ⌜ newest 0 (now (now (self .exit) .words .all)) (now (self .exit) .count) ≡ dropOne (now (self .entry) .count - 1 - i) (newest 0 (now (now (self .entry) .words .all)) (now (self .entry) .count)) ⌝ }
+        requires { ⌜ now self .count ≤ length (now (now self .words .all)) ⌝ ∗ ⌜ i < now self .count ⌝ }
+        ensures within { λ _. ⌜ now (self .exit) .count ≤ length (now (now (self .exit) .words .all)) ⌝ }
+        ensures list { λ _. ⌜ newest 0 (now (now (self .exit) .words .all)) (now (self .exit) .count) ≡ dropOne (now (self .entry) .count - 1 - i) (newest 0 (now (now (self .entry) .words .all)) (now (self .entry) .count)) ⌝ }
     {
         let n = self.count;
         self.words.take_out(n, i);
@@ -82,7 +84,9 @@ impl<'a> Kept<'a> {
 
     // Forgets all of a device.
     pub fn forget(&mut self, d: u64)
-        ensures { λ _. ⌜ newest 0 (now (now (self .exit) .words .all)) (now (self .exit) .count) ≡ without d (newest 0 (now (now (self .entry) .words .all)) (now (self .entry) .count)) ⌝ }
+        requires { ⌜ now self .count ≤ length (now (now self .words .all)) ⌝ }
+        ensures within { λ _. ⌜ now (self .exit) .count ≤ length (now (now (self .exit) .words .all)) ⌝ }
+        ensures list { λ _. ⌜ newest 0 (now (now (self .exit) .words .all)) (now (self .exit) .count) ≡ without d (newest 0 (now (now (self .entry) .words .all)) (now (self .entry) .count)) ⌝ }
     {
         let n = self.count;
         self.count = self.words.sift(n, d);

@@ -3,6 +3,7 @@ pub mod board;
 pub mod dice;
 pub mod ends;
 pub mod kept;
+pub mod lent;
 mod lists;
 pub mod log;
 pub mod memory;

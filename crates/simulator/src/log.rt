@@ -3,7 +3,6 @@ ghost use mathlib.Core.Path.{_≡_};
 ghost use mathlib.Core.List.{List, [], _∷_};
 ghost use Prim.Native.Nat.{ℕ, _+_, _*_, _<_, _≤_};
 ghost use lib.ListN.{length};
-ghost use denote.Ref.{now};
 ghost use Rattle.simulator.specs.Lists.{newest};
 ghost use Rattle.simulator.specs.Notes.{blank};
 use crate::rows::Note;
@@ -12,19 +11,19 @@ use crate::rows::Note;
 pub struct Log<'a> {
     notes: &'a mut [Note],
     count: usize,
-    ghost ok: { count ≤ length (now notes) },
 }
 
 impl<'a> Log<'a> {
     // Nothing has happened yet.
     pub fn new(notes: &'a mut [Note]) -> Self
-        ensures { λ r. ⌜ newest blank (now (r .notes)) (r .count) ≡ [] ⌝ }
+        ensures { λ r. ⌜ newest blank (now (r .notes)) (r .count) ≡ [] ⌝ ∗ ⌜ r .count ≡ 0 ⌝ ∗ ⌜ length (now (r .notes)) ≡ length (now (notes .entry)) ⌝ }
     {
         Log { notes, count: 0 }
     }
 
     // How many more there is room for.
     pub fn room(&self) -> usize
+        requires { ⌜ now self .count ≤ length (now (now self .notes)) ⌝ }
         ensures { λ r. ⌜ r + now (self .entry) .count ≡ length (now (now (self .entry) .notes)) ⌝ }
     {
         self.notes.len() - self.count

@@ -1,6 +1,7 @@
 // A machine that plays a script: what the keeper may ask, and the programs of the script.
 ghost use mathlib.Core.Path.{_≡_};
 ghost use mathlib.Core.List.{_∷_};
+ghost use denote.Ref.{now};
 ghost use Rattle.simulator.specs.Parts.{hwOf, seenOf};
 ghost use Rattle.simulator.specs.View.{partsOf};
 ghost use Rattle.simulator.specs.Heard.{Replied, HandedOver, outcomeOf};
@@ -43,16 +44,16 @@ enum Turn {
 }
 
 #[derive(Drop)]
-pub struct Sim<'a, S> {
-    pub board: Board<'a>,
+pub struct Sim<'b, 'a, S> {
+    pub board: &'b mut Board<'a>,
     pub script: S,
     pub ended: Ended,
 }
 
-impl<'a, S: Script> Sim<'a, S> {
+impl<'b, 'a, S: Script> Sim<'b, 'a, S> {
     // One line is played, and what is said of it is handed over.
     fn play_line(&mut self, line: Line) -> Reply
-        ensures board { λ r. ⌜ Replied line (partsOf (now (self .entry) .board)) r (partsOf (now (self .exit) .board)) ⌝ }
+        ensures board { λ r. ⌜ Replied line (partsOf (now (now (self .entry) .board))) r (partsOf (now (now (self .exit) .board))) ⌝ }
         ensures script { λ r. ⌜ HandedOver (S·Script .handed) (now (self .entry) .script) line r (now (self .exit) .script) ⌝ }
     {
         let reply = self.board.answer(line);
@@ -70,7 +71,7 @@ impl<'a, S: Script> Sim<'a, S> {
 
     // Tricks, and then the next line of the script.
     fn turn(&mut self) -> Turn
-        ensures { λ r. ⌜ Turned (partsOf (now (self .entry) .board)) r (partsOf (now (self .exit) .board)) ⌝ }
+        ensures { λ r. ⌜ Turned (partsOf (now (now (self .entry) .board))) r (partsOf (now (now (self .exit) .board))) ⌝ }
     {
         self.board.play();
         match self.script.line() {
@@ -100,9 +101,9 @@ impl<'a, S: Script> Sim<'a, S> {
 
     // An answer is noted, and handed over.
     fn hand_answer(&mut self, who: u32, c: Call, a: Answer)
-        requires { ⌜ Explained can (startOf (hwOf (partsOf (now self .board)))) (Told who c a ∷ seenOf (partsOf (now self .board))) ⌝ }
-        ensures hw { λ _. ⌜ hwOf (partsOf (now (self .exit) .board)) ≡ hwOf (partsOf (now (self .entry) .board)) ⌝ }
-        ensures seen { λ _. ⌜ seenOf (partsOf (now (self .exit) .board)) ≡ Told who c a ∷ seenOf (partsOf (now (self .entry) .board)) ⌝ }
+        requires { ⌜ Explained can (startOf (hwOf (partsOf (now (now self .board))))) (Told who c a ∷ seenOf (partsOf (now (now self .board)))) ⌝ }
+        ensures hw { λ _. ⌜ hwOf (partsOf (now (now (self .exit) .board))) ≡ hwOf (partsOf (now (now (self .entry) .board))) ⌝ }
+        ensures seen { λ _. ⌜ seenOf (partsOf (now (now (self .exit) .board))) ≡ Told who c a ∷ seenOf (partsOf (now (now (self .entry) .board))) ⌝ }
         ensures script { λ _. ⌜ S·Script .handed (now (self .entry) .script) (outcomeOf (Told who c a)) (now (self .exit) .script) ⌝ }
     {
         self.board.tell(who, c, a);
@@ -110,10 +111,10 @@ impl<'a, S: Script> Sim<'a, S> {
     }
 }
 
-pub impl<'a, S: Script> Machine for Sim<'a, S> as SimMachine {
-    ghost hw = { λ s. hwOf (partsOf (s .board)) };
+pub impl<'b, 'a, S: Script> Machine for Sim<'b, 'a, S> as SimMachine {
+    ghost hw = { λ s. hwOf (partsOf (now (s .board))) };
 
-    ghost seen = { λ s. seenOf (partsOf (s .board)) };
+    ghost seen = { λ s. seenOf (partsOf (now (s .board))) };
 
     fn frames(&self) -> u32 {
         self.board.frames()
@@ -160,7 +161,7 @@ pub impl<'a, S: Script> Machine for Sim<'a, S> as SimMachine {
     }
 }
 
-pub impl<'a, S: Script> World for Sim<'a, S> as SimWorld {
+pub impl<'b, 'a, S: Script> World for Sim<'b, 'a, S> as SimWorld {
     fn next(&mut self) -> Option<(u32, Call)> {
         for _ in 0..u64::MAX {
             match self.turn() {

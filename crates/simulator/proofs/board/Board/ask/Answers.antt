@@ -16,7 +16,7 @@ returns-then-who-gt31 c = beyond-range (partsOf (c .args .self .now)) (line.Call
 
 pub ghost-self : need.ghost-self
 ghost-self c =
-    (c .args .self .now .few, (room-asked (c .asked .result) (partsOf (c .args .self .now) .notes) _ (c .args .who) (c .call-of-call .result) (c .args .self .now .log .count) _ _ (c .asked .ensures) (c .add .ensures .list) (c .add .ensures .count) (omega arith), tt))
+    (c .args .self .now .words, (c .args .self .now .frames, (c .args .self .now .places, (c .args .self .now .few, (c .args .self .now .uppers, (c .args .self .now .lowers, (c .args .self .now .pages, (c .args .self .now .accesses, (room-asked (c .asked .result) (partsOf (c .args .self .now) .notes) _ (c .args .who) (c .call-of-call .result) (c .args .self .now .log .count) _ _ (c .asked .ensures) (c .add .ensures .list) (c .add .ensures .count) (omega arith), tt)))))))))
 
 pub returns : need.returns
 returns c =

@@ -4,4 +4,4 @@ use Rattle.simulator.proofs.board.Board.forget.Needs as need
 
 pub returns : need.returns
 returns c =
-    let r = forgot-all (c .args .d) (partsOf (c .args .self .now)) _ _ _ _ (c .forget .ensures) (c .forget-2 .ensures) (c .forget-3 .ensures) (c .forget-4 .ensures) in record { goes = r .0; forgot = r .1 }
+    let r = forgot-all (c .args .d) (partsOf (c .args .self .now)) _ _ _ _ (c .forget .ensures .list) (c .forget-2 .ensures .list) (c .forget-3 .ensures .list) (c .forget-4 .ensures .list) in record { goes = r .0; forgot = r .1 }

@@ -11,4 +11,4 @@ pub ghost-self : need.ghost-self
 unfolding aside
 ghost-self c =
     let a : aside (eventOf (c .drained .result)) ≡ true = ap aside (c .drained .ensures) in
-    (c .args .self .now .few, (room-asking (c .drained .result) (partsOf (c .args .self .now) .notes) _ (c .args .self .now .log .count) _ (c .args .self .now .left) _ _ a (c .add .ensures .list) (c .add .ensures .count) (omega arith) (omega arith), tt))
+    (c .args .self .now .words, (c .args .self .now .frames, (c .args .self .now .places, (c .args .self .now .few, (c .args .self .now .uppers, (c .args .self .now .lowers, (c .args .self .now .pages, (c .args .self .now .accesses, (room-asking (c .drained .result) (partsOf (c .args .self .now) .notes) _ (c .args .self .now .log .count) _ (c .args .self .now .left) _ _ a (c .add .ensures .list) (c .add .ensures .count) (omega arith) (omega arith), tt)))))))))

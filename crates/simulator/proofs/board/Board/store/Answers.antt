@@ -32,7 +32,7 @@ returns-then-note-aside-2 c =
 
 pub returns-then-note-aside-3 : need.returns-then-note-aside-3
 returns-then-note-aside-3 c =
-    let z = store-stores (partsOf (c .args .self .now)) (partsOf (c .note-aside-in-Page .last .self)) (c .stored .result) (c .args .who) (c .args .v) (c .args .word) (c .frames-frames .result) (c .if-note-aside-3 .ensures tt) (omega arith) (omega arith) (omega arith) (c .frames-frames .ensures) (c .in-Page .f) (c .args .x) (c .write .last .self .frames) (c .write .last .self .words .now) (c .in-Page .ensures tt .0) (c .stored .ensures) (c .fits .x .fits) (c .args .self .now .memory .ok) (omega (arith, c .in-Page .ensures tt .1, c .frames-frames .ensures)) (c .write .ensures .frames) (c .write .ensures .words) in record { ran = z .0; heard = z .1 }
+    let z = store-stores (partsOf (c .args .self .now)) (partsOf (c .note-aside-in-Page .last .self)) (c .stored .result) (c .args .who) (c .args .v) (c .args .word) (c .frames-frames .result) (c .if-note-aside-3 .ensures tt) (omega arith) (omega arith) (omega arith) (c .frames-frames .ensures) (c .in-Page .f) (c .args .x) (c .write .last .self .frames) (c .write .last .self .words .now) (c .in-Page .ensures tt .0) (c .stored .ensures) (c .fits .x .fits) (c .args .self .now .words) (omega (arith, c .in-Page .ensures tt .1, c .frames-frames .ensures)) (c .write .ensures .frames) (c .write .ensures .words) in record { ran = z .0; heard = z .1 }
 
 pub returns-else-note-aside : need.returns-else-note-aside
 returns-else-note-aside c = let z = over-same (partsOf (c .args .self .now)) (partsOf (c .note-aside .last .self)) (line.Store (c .args .who) (c .args .v) (c .args .word) (c .args .x)) (c .if-note-aside .ensures tt) in record { ran = z .0; heard = z .1 }

@@ -14,4 +14,4 @@ pub ghost-self : need.ghost-self
 ghost-self c =
     let p = partsOf (c .args .self .now) in
     let o = told-owed can (startOf (hwOf p)) (seenOf p) (c .args .who) (c .args .c) (c .args .a) (c .pre .0) (c .pre .1) (c .pre .2) in
-    (c .args .self .now .few, (room-told (c .told .result) (p .notes) _ (c .args .who) (c .args .c) (c .args .a) (c .args .self .now .log .count) _ (c .args .self .now .left) _ (c .told .ensures) (c .add .ensures .list) (c .add .ensures .count) o (omega (arith, c .args .self .now .room)), tt))
+    (c .args .self .now .words, (c .args .self .now .frames, (c .args .self .now .places, (c .args .self .now .few, (c .args .self .now .uppers, (c .args .self .now .lowers, (c .args .self .now .pages, (c .args .self .now .accesses, (room-told (c .told .result) (p .notes) _ (c .args .who) (c .args .c) (c .args .a) (c .args .self .now .log .count) _ (c .args .self .now .left) _ (c .told .ensures) (c .add .ensures .list) (c .add .ensures .count) o (omega (arith, c .args .self .now .room)), tt)))))))))
