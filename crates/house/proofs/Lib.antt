@@ -1,11 +1,15 @@
 pub mod Between
+pub mod Built
 pub mod Clearing
 pub mod Counting
 pub mod Facts
+pub mod Getting
+pub mod Idle
+pub mod Keeping
 pub mod Known
 pub mod Lending
 pub mod Memory
-pub mod Pages
+pub mod PageWords
 pub mod Programs
 pub mod Rooms
 pub mod Shelf

@@ -6,3 +6,4 @@ pub mod Sound
 pub mod Serving
 pub mod Kept
 pub mod Operations
+pub mod Refusals

@@ -15,7 +15,15 @@ use Rattle.house.specs.Meaning.{Loan, Home, Lent, Leaving, Use, House, TableOf
 
 -- the calls that are built: it only grows
 abbrev pub can : Call → Bool
-can k = false
+can (Get v) = true
+can (Free v) = true
+can (Give v to at) = false
+can (Open d) = false
+can (Close d) = false
+can (Regs d v) = false
+can (Lend v d p w) = false
+can (Recall v) = false
+can (End w) = false
 
 -- the core stays built
 abbrev pub CoreBuilt : Type 0

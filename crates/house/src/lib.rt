@@ -8,12 +8,18 @@ ghost use Rattle.house.specs.Event.{Event, Told};
 ghost use Rattle.house.specs.Machine.{Hw, Frame, Registers, Nothing, AtStart, Steps, Drains, Comes, withMem, counted, put, shows, started};
 ghost use Rattle.house.specs.Meaning.{Explained, Quiet};
 ghost use Rattle.house.specs.Promise.{can, roomOf, startOf};
+ghost use Rattle.house.specs.Refusals.{answerOf, IfRefused, IfNo, NeverNo};
 ghost use Rattle.house.specs.Serving.{Keeps, Begins};
 
 mod frames;
+mod pages;
+mod refusals;
 
 use frames::clear;
 use ledger::setup::set_up;
+use pages::free;
+use pages::get;
+use refusals::Refusal;
 
 // the frame in which the device table is
 const DEVICE_TABLE: u32 = 0;
@@ -148,13 +154,44 @@ pub fn boot<M: Machine>(w: &mut M, room: &mut [u64]) -> Keeper
 }
 
 impl Keeper {
-    // Serves one call of a program. As no call is built, each is answered by 9.
+    // Serves one call of a program. A refused call asks the machine for nothing that counts, and leaves all as it was.
     pub fn serve<M: Machine>(&mut self, w: &mut M, room: &mut [u64], who: u32, c: Call) -> Answer
         requires soon { ⌜ 2048 ≤ hw (now w) .left ⌝ }
         requires begins { ⌜ Begins (now room) who c (hw (now w)) (seen (now w)) ⌝ }
-        ensures { λ r. ⌜ Keeps (now (room .exit)) Quiet (hw (now (w .exit))) (Told who c r ∷ seen (now (w .exit))) ⌝ }
+        ensures keeps { λ r. ⌜ Keeps (now (room .exit)) Quiet (hw (now (w .exit))) (Told who c r ∷ seen (now (w .exit))) ⌝ }
+        ensures refused { λ r. ⌜ IfNo r ((now (room .exit) ≡ now (room .entry)) × (hw (now (w .exit)) ≡ hw (now (w .entry))) × (seen (now (w .exit)) ≡ seen (now (w .entry))) × (now (self .exit) .next ≡ now (self .entry) .next)) ⌝ }
     {
-        Answer::No(9)
+        match self.call(w, room, who, c) {
+            Ok(a) => a,
+            Err(e) => Answer::No(e.number()),
+        }
+    }
+
+    // One row for each call that is built.
+    fn call<M: Machine>(
+        &mut self,
+        w: &mut M,
+        room: &mut [u64],
+        who: u32,
+        c: Call,
+    ) -> Result<Answer, Refusal>
+        requires soon { ⌜ 2048 ≤ hw (now w) .left ⌝ }
+        requires begins { ⌜ Begins (now room) who c (hw (now w)) (seen (now w)) ⌝ }
+        ensures told { λ r. ⌜ Keeps (now (room .exit)) Quiet (hw (now (w .exit))) (Told who c (answerOf r) ∷ seen (now (w .exit))) ⌝ }
+        ensures refused { λ r. ⌜ IfRefused r ((now (room .exit) ≡ now (room .entry)) × (hw (now (w .exit)) ≡ hw (now (w .entry))) × (seen (now (w .exit)) ≡ seen (now (w .entry))) × (now (self .exit) .next ≡ now (self .entry) .next)) ⌝ }
+        ensures accepted { λ r. ⌜ NeverNo r ⌝ }
+    {
+        match c {
+            Call::Get { v } => get(w, room, &mut self.next, who, v),
+            Call::Free { v } => free(w, room, who, v),
+            Call::Give { .. } => Err(Refusal::NotBuilt),
+            Call::Open { .. } => Err(Refusal::NotBuilt),
+            Call::Close { .. } => Err(Refusal::NotBuilt),
+            Call::Regs { .. } => Err(Refusal::NotBuilt),
+            Call::Lend { .. } => Err(Refusal::NotBuilt),
+            Call::Recall { .. } => Err(Refusal::NotBuilt),
+            Call::End { .. } => Err(Refusal::NotBuilt),
+        }
     }
 }
 

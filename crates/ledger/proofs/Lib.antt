@@ -1,2 +1,6 @@
 pub mod Entries
 pub mod Cleared
+pub mod Moves
+pub mod Coherence
+pub mod Laws
+pub mod Operations

@@ -2,6 +2,7 @@
 pub mod devices;
 pub mod frames;
 pub mod layout;
+pub mod pages;
 pub mod places;
 pub mod record;
 pub mod searches;

@@ -1,0 +1,18 @@
+-- Which calls are built: the one place where proofs look into `can`.
+use Prim.Native.Nat.{ℕ}
+use lib.Dec.{T}
+use mathlib.Core.Path.{_≡_, sym, subst}
+use mathlib.Core.Bool.{not}
+use Rattle.house.specs.declared.Call.{Call}
+use Rattle.house.specs.declared.Call.the-variants.{Get, Free}
+use Rattle.house.specs.Promise.{can}
+
+pub get-built : (v : ℕ) → T (can (Get v))
+get-built v = tt
+
+pub free-built : (v : ℕ) → T (can (Free v))
+free-built v = tt
+
+-- a call that is known to be one that is not built
+pub unbuilt : {c k : Call} → c ≡ k → T (not (can k)) → T (not (can c))
+unbuilt e t = subst (λ (z : Call). T (not (can z))) (sym e) t

@@ -1,0 +1,70 @@
+-- The numbers of refusals, and what each says of the room when a call is refused by it: the first that applies.
+-- Nothing is assumed here.
+use mathlib.Core.Path.{_≡_}
+use Prim.Native.Nat.{ℕ, _<_, _≤_}
+use Rattle.std.specs.declared.result.Result.{Result}
+use Rattle.std.specs.declared.result.Result.the-variants.{Ok, Err}
+use Rattle.ledger.specs.declared.Loan.the-variants as loan
+use Rattle.ledger.specs.declared.Use.the-variants as used
+use Rattle.ledger.specs.declared.Place.the-variants as place
+use Rattle.ledger.specs.View as ledger
+use Rattle.ledger.specs.Uses.{loanIn}
+use Rattle.house.specs.declared.Answer.{Answer}
+use Rattle.house.specs.declared.Answer.the-variants.{Done, Later, No}
+use Rattle.house.specs.declared.refusals.Refusal.{Refusal}
+use Rattle.house.specs.declared.refusals.Refusal.the-variants.{OutOfRange, NoPage, Occupied, WrongLoan, NotYours, Held, NoFrame, NotPermitted, NotBuilt}
+
+abbrev pub numberOf : Refusal → ℕ
+numberOf OutOfRange = 1
+numberOf NoPage = 2
+numberOf Occupied = 3
+numberOf WrongLoan = 4
+numberOf NotYours = 5
+numberOf Held = 6
+numberOf NoFrame = 7
+numberOf NotPermitted = 8
+numberOf NotBuilt = 9
+
+-- what a program is told
+abbrev pub answerOf : Result Answer Refusal → Answer
+answerOf (Ok a) = a
+answerOf (Err e) = No (numberOf e)
+
+-- what is so if the call is refused
+abbrev pub IfRefused : Result Answer Refusal → Type 0 → Type 0
+IfRefused (Ok a) P = Unit {0}
+IfRefused (Err e) P = P
+
+abbrev pub IfNo : Answer → Type 0 → Type 0
+IfNo Done P = Unit {0}
+IfNo Later P = Unit {0}
+IfNo (No k) P = P
+
+-- a refusal is an error, and no answer
+abbrev pub NeverNo : Result Answer Refusal → Type 0
+NeverNo (Ok a) = IfNo a ⊥
+NeverNo (Err e) = Unit {0}
+
+-- c asks for a page at u; v is what the room says of n frames
+abbrev pub GetRefused : ledger.View → ℕ → ℕ → ℕ → Refusal → Type 0
+GetRefused v n c u OutOfRange = 1024 ≤ u
+GetRefused v n c u NoPage = ⊥
+GetRefused v n c u Occupied = (u < 1024) × (v .place c u ≡ place.Nothing → ⊥)
+GetRefused v n c u WrongLoan = ⊥
+GetRefused v n c u NotYours = ⊥
+GetRefused v n c u Held = ⊥
+GetRefused v n c u NoFrame = (u < 1024) × (v .place c u ≡ place.Nothing) × ((f : ℕ) → f < n → v .used f ≡ used.Idle → ⊥)
+GetRefused v n c u NotPermitted = ⊥
+GetRefused v n c u NotBuilt = ⊥
+
+-- c gives up its page at u
+abbrev pub FreeRefused : ledger.View → ℕ → ℕ → Refusal → Type 0
+FreeRefused v c u OutOfRange = 1024 ≤ u
+FreeRefused v c u NoPage = (u < 1024) × ((f : ℕ) → v .place c u ≡ place.Page f → ⊥)
+FreeRefused v c u Occupied = ⊥
+FreeRefused v c u WrongLoan = (u < 1024) × ((f : ℕ) × (v .place c u ≡ place.Page f) × (loanIn (v .used f) ≡ loan.Home → ⊥))
+FreeRefused v c u NotYours = ⊥
+FreeRefused v c u Held = ⊥
+FreeRefused v c u NoFrame = ⊥
+FreeRefused v c u NotPermitted = ⊥
+FreeRefused v c u NotBuilt = ⊥
