@@ -1,7 +1,9 @@
+pub mod Asking
 pub mod Between
 pub mod Built
 pub mod Clearing
 pub mod Counting
+pub mod Draining
 pub mod Facts
 pub mod Getting
 pub mod Idle

@@ -11,7 +11,9 @@ ghost use Rattle.house.specs.Promise.{can, roomOf, startOf};
 ghost use Rattle.house.specs.Refusals.{answerOf, IfRefused, IfNo, NeverNo};
 ghost use Rattle.house.specs.Serving.{Keeps, Begins};
 
+mod drains;
 mod frames;
+mod operations;
 mod pages;
 mod refusals;
 
