@@ -10,7 +10,7 @@ use Rattle.ledger.specs.declared.Use.the-variants.{House, TableOf, Idle, PageO
 use Rattle.ledger.specs.declared.Place.the-variants.{Nothing, Page, Registers}
 use Rattle.ledger.specs.declared.Device.the-variants.{Shut, Opened, Closing}
 use Rattle.ledger.specs.View.{View, withUse, withPlace, withDevice, withTop, withLow}
-use Rattle.ledger.specs.Uses.{mapLoan, leavingFrom, homeFrom, noTable, noPage, notOf}
+use Rattle.ledger.specs.Uses.{mapLoan, leavingFrom, homeFrom, noTable, noPage, notOf, noRegisters}
 
 -- frame 0 the house's, every other idle, nothing shown, every device shut, no table
 abbrev pub empty : View
@@ -60,3 +60,11 @@ vacated c v s = withPlace c v Nothing (withUses (noPage c v) s)
 -- the places of c show nothing, and its pages are idle
 abbrev pub ended : ℕ → View → View
 ended c s = record { used = λ f. notOf c (s .used f); place = λ a b. cond (eqb a c) Nothing (s .place a b); device = s .device; top = s .top; low = s .low }
+
+-- place v of c shows no registers of d
+abbrev pub unregistered : ℕ → ℕ → ℕ → View → View
+unregistered c v d s = withPlace c v (noRegisters d (s .place c v)) s
+
+-- the registers of d are shown nowhere
+abbrev pub withoutRegisters : ℕ → View → View
+withoutRegisters d s = record { used = s .used; place = λ a b. noRegisters d (s .place a b); device = s .device; top = s .top; low = s .low }

@@ -7,6 +7,8 @@ use Rattle.ledger.specs.declared.Loan.the-variants.{Home, Lent, Leaving}
 use Rattle.ledger.specs.declared.Which.{Which}
 use Rattle.ledger.specs.declared.Use.{Use}
 use Rattle.ledger.specs.declared.Use.the-variants.{House, TableOf, Idle, PageOf}
+use Rattle.ledger.specs.declared.Place.{Place}
+use Rattle.ledger.specs.declared.Place.the-variants.{Nothing, Page, Registers}
 use Rattle.ledger.specs.declared.Device.{Device}
 use Rattle.ledger.specs.declared.Device.the-variants.{Shut, Opened, Closing}
 
@@ -96,3 +98,19 @@ notOf c House = House
 notOf c (TableOf d w) = TableOf d w
 notOf c Idle = Idle
 notOf c (PageOf a b l) = cond (eqb c a) Idle (PageOf a b l)
+
+abbrev pub showsAny : Place → Bool
+showsAny Nothing = false
+showsAny (Page f) = true
+showsAny (Registers d) = true
+
+abbrev pub showsRegisters : ℕ → Place → Bool
+showsRegisters d Nothing = false
+showsRegisters d (Page f) = false
+showsRegisters d (Registers e) = eqb e d
+
+-- the registers of d are not shown
+abbrev pub noRegisters : ℕ → Place → Place
+noRegisters d Nothing = Nothing
+noRegisters d (Page f) = Page f
+noRegisters d (Registers e) = cond (eqb e d) Nothing (Registers e)

@@ -5,9 +5,11 @@ pub mod layout;
 pub mod pages;
 pub mod places;
 pub mod record;
+pub mod registers;
 pub mod searches;
 pub mod setup;
 pub mod slots;
+pub mod tables;
 
 // A page that is somebody's is with its owner, lent to a device, or on its way back from one.
 #[derive(Clone, Copy)]
