@@ -4,3 +4,4 @@ pub mod Moves
 pub mod Coherence
 pub mod Laws
 pub mod Operations
+pub mod Swept

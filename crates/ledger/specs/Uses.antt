@@ -72,11 +72,23 @@ homeFrom d Home = Home
 homeFrom d (Lent e p w) = cond (eqb d e) Home (Lent e p w)
 homeFrom d (Leaving e p w) = cond (eqb d e) Home (Leaving e p w)
 
+-- what a device's closing makes of a loan: it is home once the device was forgotten, and else leaving
+abbrev pub sweptLoan : (home : Bool) → ℕ → Loan → Loan
+sweptLoan true d l = homeFrom d l
+sweptLoan false d l = leavingFrom d l
+
 abbrev pub mapLoan : (Loan → Loan) → Use → Use
 mapLoan φ House = House
 mapLoan φ (TableOf d w) = TableOf d w
 mapLoan φ Idle = Idle
 mapLoan φ (PageOf c v l) = PageOf c v (φ l)
+
+-- the loan of the page of c at v is changed
+abbrev pub onPage : ℕ → ℕ → (Loan → Loan) → Use → Use
+onPage c v φ House = House
+onPage c v φ (TableOf d w) = TableOf d w
+onPage c v φ Idle = Idle
+onPage c v φ (PageOf a b l) = cond (eqb a c && eqb b v) (PageOf a b (φ l)) (PageOf a b l)
 
 -- the tables of d are idle
 abbrev pub noTable : ℕ → Use → Use

@@ -9,6 +9,7 @@ pub mod registers;
 pub mod searches;
 pub mod setup;
 pub mod slots;
+pub mod sweeps;
 pub mod tables;
 
 // A page that is somebody's is with its owner, lent to a device, or on its way back from one.
