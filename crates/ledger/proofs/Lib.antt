@@ -5,3 +5,4 @@ pub mod Coherence
 pub mod Laws
 pub mod Operations
 pub mod Swept
+pub mod Closed

@@ -5,6 +5,7 @@ use lib.Dec.{eqb}
 use Rattle.ledger.specs.declared.Loan.{Loan}
 use Rattle.ledger.specs.declared.Loan.the-variants.{Home, Lent, Leaving}
 use Rattle.ledger.specs.declared.Which.{Which}
+use Rattle.ledger.specs.declared.Which.the-variants.{Upper, Lower}
 use Rattle.ledger.specs.declared.Use.{Use}
 use Rattle.ledger.specs.declared.Use.the-variants.{House, TableOf, Idle, PageOf}
 use Rattle.ledger.specs.declared.Place.{Place}
@@ -96,6 +97,22 @@ noTable d House = House
 noTable d (TableOf e w) = cond (eqb d e) Idle (TableOf e w)
 noTable d Idle = Idle
 noTable d (PageOf c v l) = PageOf c v l
+
+-- the lower table of d at slot i is idle
+abbrev pub noLower : ℕ → ℕ → Use → Use
+noLower d i House = House
+noLower d i (TableOf e Upper) = TableOf e Upper
+noLower d i (TableOf e (Lower j)) = cond (eqb e d && eqb j i) Idle (TableOf e (Lower j))
+noLower d i Idle = Idle
+noLower d i (PageOf c v l) = PageOf c v l
+
+-- the lower tables of d are idle
+abbrev pub noLowers : ℕ → Use → Use
+noLowers d House = House
+noLowers d (TableOf e Upper) = TableOf e Upper
+noLowers d (TableOf e (Lower j)) = cond (eqb e d) Idle (TableOf e (Lower j))
+noLowers d Idle = Idle
+noLowers d (PageOf c v l) = PageOf c v l
 
 -- the page of c at v is idle
 abbrev pub noPage : ℕ → ℕ → Use → Use

@@ -1,4 +1,5 @@
 // The room: who has which frame, place, table and device, in words that are lent. It knows nothing of the machine.
+pub mod closing;
 pub mod devices;
 pub mod frames;
 pub mod layout;
