@@ -4,3 +4,5 @@ pub mod Moves
 pub mod Coherence
 pub mod Laws
 pub mod Operations
+pub mod Swept
+pub mod Closed

@@ -5,8 +5,11 @@ use lib.Dec.{eqb}
 use Rattle.ledger.specs.declared.Loan.{Loan}
 use Rattle.ledger.specs.declared.Loan.the-variants.{Home, Lent, Leaving}
 use Rattle.ledger.specs.declared.Which.{Which}
+use Rattle.ledger.specs.declared.Which.the-variants.{Upper, Lower}
 use Rattle.ledger.specs.declared.Use.{Use}
 use Rattle.ledger.specs.declared.Use.the-variants.{House, TableOf, Idle, PageOf}
+use Rattle.ledger.specs.declared.Place.{Place}
+use Rattle.ledger.specs.declared.Place.the-variants.{Nothing, Page, Registers}
 use Rattle.ledger.specs.declared.Device.{Device}
 use Rattle.ledger.specs.declared.Device.the-variants.{Shut, Opened, Closing}
 
@@ -70,11 +73,23 @@ homeFrom d Home = Home
 homeFrom d (Lent e p w) = cond (eqb d e) Home (Lent e p w)
 homeFrom d (Leaving e p w) = cond (eqb d e) Home (Leaving e p w)
 
+-- what a device's closing makes of a loan: it is home once the device was forgotten, and else leaving
+abbrev pub sweptLoan : (home : Bool) → ℕ → Loan → Loan
+sweptLoan true d l = homeFrom d l
+sweptLoan false d l = leavingFrom d l
+
 abbrev pub mapLoan : (Loan → Loan) → Use → Use
 mapLoan φ House = House
 mapLoan φ (TableOf d w) = TableOf d w
 mapLoan φ Idle = Idle
 mapLoan φ (PageOf c v l) = PageOf c v (φ l)
+
+-- the loan of the page of c at v is changed
+abbrev pub onPage : ℕ → ℕ → (Loan → Loan) → Use → Use
+onPage c v φ House = House
+onPage c v φ (TableOf d w) = TableOf d w
+onPage c v φ Idle = Idle
+onPage c v φ (PageOf a b l) = cond (eqb a c && eqb b v) (PageOf a b (φ l)) (PageOf a b l)
 
 -- the tables of d are idle
 abbrev pub noTable : ℕ → Use → Use
@@ -82,6 +97,22 @@ noTable d House = House
 noTable d (TableOf e w) = cond (eqb d e) Idle (TableOf e w)
 noTable d Idle = Idle
 noTable d (PageOf c v l) = PageOf c v l
+
+-- the lower table of d at slot i is idle
+abbrev pub noLower : ℕ → ℕ → Use → Use
+noLower d i House = House
+noLower d i (TableOf e Upper) = TableOf e Upper
+noLower d i (TableOf e (Lower j)) = cond (eqb e d && eqb j i) Idle (TableOf e (Lower j))
+noLower d i Idle = Idle
+noLower d i (PageOf c v l) = PageOf c v l
+
+-- the lower tables of d are idle
+abbrev pub noLowers : ℕ → Use → Use
+noLowers d House = House
+noLowers d (TableOf e Upper) = TableOf e Upper
+noLowers d (TableOf e (Lower j)) = cond (eqb e d) Idle (TableOf e (Lower j))
+noLowers d Idle = Idle
+noLowers d (PageOf c v l) = PageOf c v l
 
 -- the page of c at v is idle
 abbrev pub noPage : ℕ → ℕ → Use → Use
@@ -96,3 +127,19 @@ notOf c House = House
 notOf c (TableOf d w) = TableOf d w
 notOf c Idle = Idle
 notOf c (PageOf a b l) = cond (eqb c a) Idle (PageOf a b l)
+
+abbrev pub showsAny : Place → Bool
+showsAny Nothing = false
+showsAny (Page f) = true
+showsAny (Registers d) = true
+
+abbrev pub showsRegisters : ℕ → Place → Bool
+showsRegisters d Nothing = false
+showsRegisters d (Page f) = false
+showsRegisters d (Registers e) = eqb e d
+
+-- the registers of d are not shown
+abbrev pub noRegisters : ℕ → Place → Place
+noRegisters d Nothing = Nothing
+noRegisters d (Page f) = Page f
+noRegisters d (Registers e) = cond (eqb e d) Nothing (Registers e)
