@@ -8,3 +8,8 @@ pub mod Serving
 pub mod Kept
 pub mod Operations
 pub mod Refusals
+pub mod Seen
+pub mod Served
+pub mod Gone
+pub mod Words
+pub mod Rows

@@ -7,7 +7,7 @@ ghost use lib.Dec.{T};
 ghost use Rattle.house.specs.Event.{Event, Told};
 ghost use Rattle.house.specs.Machine.{Hw, Frame, Registers, Nothing, AtStart, Steps, Drains, Comes, withMem, counted, put, shows, started};
 ghost use Rattle.house.specs.Meaning.{Explained, Quiet};
-ghost use Rattle.house.specs.Promise.{can, roomOf, startOf};
+ghost use Rattle.house.specs.Promise.{can, roomOf, startOf, OnePlace, LentByDriver, HomeIsQuiet, NewIsNoughts};
 ghost use Rattle.house.specs.Refusals.{answerOf, IfRefused, IfNo, NeverNo};
 ghost use Rattle.house.specs.Serving.{Keeps, Begins};
 
@@ -17,6 +17,7 @@ mod operations;
 mod pages;
 mod refusals;
 pub mod simulation;
+pub mod theorems;
 
 use frames::clear;
 use ledger::setup::set_up;
@@ -225,4 +226,25 @@ pub fn keeper_is_small() -> bool
     ensures { λ r. ⌜ T r ⌝ }
 {
     std::mem::size_of::<Keeper>() <= 4096
+}
+
+// No two frames are at one place, or at one page of a device.
+pub fn one_place() -> u8
+    ensures { λ _. ⌜ OnePlace ⌝ }
+{
+    0
+}
+
+// A loan's owner has the device, and the devices of a group that are held have one holder.
+pub fn lent_by_driver() -> u8
+    ensures { λ _. ⌜ LentByDriver ⌝ }
+{
+    0
+}
+
+// A device touches only what is lent to it or leaving it there; a new page is noughts.
+pub fn home_is_quiet() -> u8
+    ensures { λ _. ⌜ HomeIsQuiet ⌝ ∗ ⌜ NewIsNoughts ⌝ }
+{
+    0
 }
