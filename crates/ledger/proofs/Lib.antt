@@ -6,3 +6,4 @@ pub mod Laws
 pub mod Operations
 pub mod Swept
 pub mod Closed
+pub mod Searched

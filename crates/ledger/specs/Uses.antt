@@ -1,5 +1,5 @@
 -- Tests of uses, loans and devices, and what becomes of them.
-use mathlib.Core.Bool.{Bool, true, false, cond, _&&_}
+use mathlib.Core.Bool.{Bool, true, false, cond, _&&_, not}
 use Prim.Native.Nat.{ℕ}
 use lib.Dec.{eqb}
 use Rattle.ledger.specs.declared.Loan.{Loan}
@@ -60,6 +60,10 @@ abbrev pub ownerIs : ℕ → Device → Bool
 ownerIs c Shut = false
 ownerIs c (Opened w) = eqb c w
 ownerIs c (Closing w) = eqb c w
+
+-- a program other than c has it, open or closing
+abbrev pub heldByOther : ℕ → Device → Bool
+heldByOther c x = not (isShut x) && not (ownerIs c x)
 
 -- what is lent to d is leaving it
 abbrev pub leavingFrom : ℕ → Loan → Loan
@@ -143,3 +147,9 @@ abbrev pub noRegisters : ℕ → Place → Place
 noRegisters d Nothing = Nothing
 noRegisters d (Page f) = Page f
 noRegisters d (Registers e) = cond (eqb e d) Nothing (Registers e)
+
+-- the loan of the page that a place shows
+abbrev pub loanShown : (ℕ → Use) → Place → Loan
+loanShown used Nothing = Home
+loanShown used (Page f) = loanIn (used f)
+loanShown used (Registers d) = Home
