@@ -7,3 +7,4 @@ pub mod Operations
 pub mod Swept
 pub mod Closed
 pub mod Searched
+pub mod Emptied

@@ -1,7 +1,7 @@
 -- Tests of uses, loans and devices, and what becomes of them.
 use mathlib.Core.Bool.{Bool, true, false, cond, _&&_, not}
 use Prim.Native.Nat.{ℕ}
-use lib.Dec.{eqb}
+use lib.Dec.{eqb, ltb}
 use Rattle.ledger.specs.declared.Loan.{Loan}
 use Rattle.ledger.specs.declared.Loan.the-variants.{Home, Lent, Leaving}
 use Rattle.ledger.specs.declared.Which.{Which}
@@ -124,6 +124,13 @@ noPage c v House = House
 noPage c v (TableOf d w) = TableOf d w
 noPage c v Idle = Idle
 noPage c v (PageOf a b l) = cond (eqb a c && eqb b v) Idle (PageOf a b l)
+
+-- the pages of c at places below k are idle
+abbrev pub notBelow : ℕ → ℕ → Use → Use
+notBelow c k House = House
+notBelow c k (TableOf d w) = TableOf d w
+notBelow c k Idle = Idle
+notBelow c k (PageOf a b l) = cond (eqb a c && ltb b k) Idle (PageOf a b l)
 
 -- the pages of c are idle
 abbrev pub notOf : ℕ → Use → Use
