@@ -6,3 +6,6 @@ pub mod Laws
 pub mod Operations
 pub mod Swept
 pub mod Closed
+pub mod Searched
+pub mod Emptied
+pub mod Loaned
