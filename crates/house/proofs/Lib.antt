@@ -6,6 +6,7 @@ pub mod Counting
 pub mod Draining
 pub mod Facts
 pub mod Getting
+pub mod Hiding
 pub mod Idle
 pub mod Keeping
 pub mod Known
