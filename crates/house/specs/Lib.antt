@@ -3,6 +3,7 @@ pub mod Machine
 pub mod Meaning
 pub mod Promise
 pub mod Sound
+pub mod Simulation
 pub mod Serving
 pub mod Kept
 pub mod Operations

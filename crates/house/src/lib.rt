@@ -16,6 +16,7 @@ mod frames;
 mod operations;
 mod pages;
 mod refusals;
+pub mod simulation;
 
 use frames::clear;
 use ledger::setup::set_up;
