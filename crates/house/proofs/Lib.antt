@@ -12,6 +12,7 @@ pub mod Keeping
 pub mod Known
 pub mod Lending
 pub mod Memory
+pub mod Opening
 pub mod PageWords
 pub mod Programs
 pub mod Rooms
