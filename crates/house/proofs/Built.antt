@@ -4,7 +4,7 @@ use lib.Dec.{T}
 use mathlib.Core.Path.{_≡_, sym, subst}
 use mathlib.Core.Bool.{not}
 use Rattle.house.specs.declared.Call.{Call}
-use Rattle.house.specs.declared.Call.the-variants.{Get, Free}
+use Rattle.house.specs.declared.Call.the-variants.{Get, Free, Open}
 use Rattle.house.specs.Promise.{can}
 
 pub get-built : (v : ℕ) → T (can (Get v))
@@ -12,6 +12,9 @@ get-built v = tt
 
 pub free-built : (v : ℕ) → T (can (Free v))
 free-built v = tt
+
+pub open-built : (d : ℕ) → T (can (Open d))
+open-built d = tt
 
 -- a call that is known to be one that is not built
 pub unbuilt : {c k : Call} → c ≡ k → T (not (can k)) → T (not (can c))

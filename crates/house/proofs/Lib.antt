@@ -14,6 +14,7 @@ pub mod Facts
 pub mod Getting
 pub mod GivenBack
 pub mod Good
+pub mod Hiding
 pub mod Idle
 pub mod Keeping
 pub mod Known
@@ -21,6 +22,7 @@ pub mod Latest
 pub mod Lending
 pub mod MeaningUses
 pub mod Memory
+pub mod Opening
 pub mod PageWords
 pub mod Played
 pub mod Programs

@@ -18,7 +18,7 @@ abbrev pub can : Call → Bool
 can (Get v) = true
 can (Free v) = true
 can (Give v to at) = false
-can (Open d) = false
+can (Open d) = true
 can (Close d) = false
 can (Regs d v) = false
 can (Lend v d p w) = false

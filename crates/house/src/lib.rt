@@ -11,6 +11,7 @@ ghost use Rattle.house.specs.Promise.{can, roomOf, startOf, OnePlace, LentByDr
 ghost use Rattle.house.specs.Refusals.{answerOf, IfRefused, IfNo, NeverNo};
 ghost use Rattle.house.specs.Serving.{Keeps, Begins};
 
+mod devices;
 mod drains;
 mod frames;
 mod operations;
@@ -19,6 +20,7 @@ mod refusals;
 pub mod simulation;
 pub mod theorems;
 
+use devices::open_device;
 use frames::clear;
 use ledger::setup::set_up;
 use pages::free;
@@ -189,7 +191,7 @@ impl Keeper {
             Call::Get { v } => get(w, room, &mut self.next, who, v),
             Call::Free { v } => free(w, room, who, v),
             Call::Give { .. } => Err(Refusal::NotBuilt),
-            Call::Open { .. } => Err(Refusal::NotBuilt),
+            Call::Open { d } => open_device(w, room, &mut self.next, who, d),
             Call::Close { .. } => Err(Refusal::NotBuilt),
             Call::Regs { .. } => Err(Refusal::NotBuilt),
             Call::Lend { .. } => Err(Refusal::NotBuilt),
