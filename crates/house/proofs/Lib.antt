@@ -10,9 +10,11 @@ pub mod Idle
 pub mod Keeping
 pub mod Known
 pub mod Lending
+pub mod Mappings
 pub mod Memory
 pub mod PageWords
 pub mod Programs
+pub mod Recalling
 pub mod Rooms
 pub mod Shelf
 pub mod Shutting

@@ -7,3 +7,4 @@ pub mod Serving
 pub mod Kept
 pub mod Operations
 pub mod Refusals
+pub mod Mappings

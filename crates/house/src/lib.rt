@@ -15,12 +15,14 @@ mod drains;
 mod frames;
 mod operations;
 mod pages;
+mod recalls;
 mod refusals;
 
 use frames::clear;
 use ledger::setup::set_up;
 use pages::free;
 use pages::get;
+use recalls::recall;
 use refusals::Refusal;
 
 // the frame in which the device table is
@@ -191,7 +193,7 @@ impl Keeper {
             Call::Close { .. } => Err(Refusal::NotBuilt),
             Call::Regs { .. } => Err(Refusal::NotBuilt),
             Call::Lend { .. } => Err(Refusal::NotBuilt),
-            Call::Recall { .. } => Err(Refusal::NotBuilt),
+            Call::Recall { v } => recall(w, room, who, v),
             Call::End { .. } => Err(Refusal::NotBuilt),
         }
     }
