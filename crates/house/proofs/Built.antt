@@ -4,7 +4,7 @@ use lib.Dec.{T}
 use mathlib.Core.Path.{_≡_, sym, subst}
 use mathlib.Core.Bool.{not}
 use Rattle.house.specs.declared.Call.{Call}
-use Rattle.house.specs.declared.Call.the-variants.{Get, Free, Open}
+use Rattle.house.specs.declared.Call.the-variants.{Get, Free, Open, Recall}
 use Rattle.house.specs.Promise.{can}
 
 pub get-built : (v : ℕ) → T (can (Get v))
@@ -19,3 +19,6 @@ open-built d = tt
 -- a call that is known to be one that is not built
 pub unbuilt : {c k : Call} → c ≡ k → T (not (can k)) → T (not (can c))
 unbuilt e t = subst (λ (z : Call). T (not (can z))) (sym e) t
+
+pub recall-built : (v : ℕ) → T (can (Recall v))
+recall-built v = tt

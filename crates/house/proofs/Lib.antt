@@ -20,6 +20,7 @@ pub mod Keeping
 pub mod Known
 pub mod Latest
 pub mod Lending
+pub mod Mappings
 pub mod MeaningUses
 pub mod Memory
 pub mod Opening
@@ -27,6 +28,7 @@ pub mod PageWords
 pub mod Played
 pub mod Programs
 pub mod Promises
+pub mod Recalling
 pub mod Rooms
 pub mod Shelf
 pub mod Shutting

@@ -13,3 +13,4 @@ pub mod Served
 pub mod Gone
 pub mod Words
 pub mod Rows
+pub mod Mappings

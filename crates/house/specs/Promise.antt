@@ -22,7 +22,7 @@ can (Open d) = true
 can (Close d) = false
 can (Regs d v) = false
 can (Lend v d p w) = false
-can (Recall v) = false
+can (Recall v) = true
 can (End w) = false
 
 -- the core stays built

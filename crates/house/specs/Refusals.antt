@@ -115,3 +115,15 @@ GiveRefused v c u a b Held = ⊥
 GiveRefused v c u a b NoFrame = ⊥
 GiveRefused v c u a b NotPermitted = ⊥
 GiveRefused v c u a b NotBuilt = ⊥
+
+-- c recalls its page at u
+abbrev pub RecallRefused : ledger.View → ℕ → ℕ → Refusal → Type 0
+RecallRefused v c u OutOfRange = 1024 ≤ u
+RecallRefused v c u NoPage = (u < 1024) × ((f : ℕ) → v .place c u ≡ place.Page f → ⊥)
+RecallRefused v c u Occupied = ⊥
+RecallRefused v c u WrongLoan = (u < 1024) × ((f : ℕ) × (v .place c u ≡ place.Page f) × (loanIn (v .used f) ≡ loan.Home))
+RecallRefused v c u NotYours = ⊥
+RecallRefused v c u Held = ⊥
+RecallRefused v c u NoFrame = ⊥
+RecallRefused v c u NotPermitted = ⊥
+RecallRefused v c u NotBuilt = ⊥

@@ -16,6 +16,7 @@ mod drains;
 mod frames;
 mod operations;
 mod pages;
+mod recalls;
 mod refusals;
 pub mod simulation;
 pub mod theorems;
@@ -25,6 +26,7 @@ use frames::clear;
 use ledger::setup::set_up;
 use pages::free;
 use pages::get;
+use recalls::recall;
 use refusals::Refusal;
 
 // the frame in which the device table is
@@ -195,7 +197,7 @@ impl Keeper {
             Call::Close { .. } => Err(Refusal::NotBuilt),
             Call::Regs { .. } => Err(Refusal::NotBuilt),
             Call::Lend { .. } => Err(Refusal::NotBuilt),
-            Call::Recall { .. } => Err(Refusal::NotBuilt),
+            Call::Recall { v } => recall(w, room, who, v),
             Call::End { .. } => Err(Refusal::NotBuilt),
         }
     }

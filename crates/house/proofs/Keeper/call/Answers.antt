@@ -15,8 +15,5 @@ returns-in-Regs g c = record { told = keeps-unbuilt (unbuilt (c .in-Regs .is) tt
 pub returns-in-Lend : need.returns-in-Lend
 returns-in-Lend g c = record { told = keeps-unbuilt (unbuilt (c .in-Lend .is) tt) (c .pre .begins); refused = (refl, refl, refl, refl); accepted = tt }
 
-pub returns-in-Recall : need.returns-in-Recall
-returns-in-Recall g c = record { told = keeps-unbuilt (unbuilt (c .in-Recall .is) tt) (c .pre .begins); refused = (refl, refl, refl, refl); accepted = tt }
-
 pub returns-in-End : need.returns-in-End
 returns-in-End g c = record { told = keeps-unbuilt (unbuilt (c .in-End .is) tt) (c .pre .begins); refused = (refl, refl, refl, refl); accepted = tt }
