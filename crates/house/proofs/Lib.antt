@@ -6,6 +6,7 @@ pub mod Counting
 pub mod Draining
 pub mod Facts
 pub mod Getting
+pub mod Giving
 pub mod Hiding
 pub mod Idle
 pub mod Keeping
@@ -17,6 +18,7 @@ pub mod PageWords
 pub mod Programs
 pub mod Rooms
 pub mod Shelf
+pub mod Showing
 pub mod Shutting
 pub mod Starting
 pub mod Steps
