@@ -4,7 +4,7 @@ use lib.Dec.{T}
 use mathlib.Core.Path.{_≡_, sym, subst}
 use mathlib.Core.Bool.{not}
 use Rattle.house.specs.declared.Call.{Call}
-use Rattle.house.specs.declared.Call.the-variants.{Get, Free, Open, Recall}
+use Rattle.house.specs.declared.Call.the-variants.{Get, Free, Open, Recall, Give, Regs}
 use Rattle.house.specs.Promise.{can}
 
 pub get-built : (v : ℕ) → T (can (Get v))
@@ -15,6 +15,12 @@ free-built v = tt
 
 pub open-built : (d : ℕ) → T (can (Open d))
 open-built d = tt
+
+pub regs-built : (d v : ℕ) → T (can (Regs d v))
+regs-built d v = tt
+
+pub give-built : (v to at : ℕ) → T (can (Give v to at))
+give-built v to at = tt
 
 -- a call that is known to be one that is not built
 pub unbuilt : {c k : Call} → c ≡ k → T (not (can k)) → T (not (can c))

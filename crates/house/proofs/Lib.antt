@@ -13,6 +13,7 @@ pub mod Draining
 pub mod Facts
 pub mod Getting
 pub mod GivenBack
+pub mod Giving
 pub mod Good
 pub mod Hiding
 pub mod Idle
@@ -31,6 +32,7 @@ pub mod Promises
 pub mod Recalling
 pub mod Rooms
 pub mod Shelf
+pub mod Showing
 pub mod Shutting
 pub mod Sights
 pub mod Starting

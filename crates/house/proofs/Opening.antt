@@ -1,12 +1,12 @@
 -- open: when it is refused, and what it makes of the room and the machine.
 use mathlib.Core.Path.{_≡_, refl, sym, ap, subst, _∙_}
 use mathlib.Core.Logic.{_⊎_, inl, inr, ⊎-elim}
-use mathlib.Core.Bool.{Bool, true, false, cond, not, _&&_, _||_}
+use mathlib.Core.Bool.{true, cond, not, _&&_, _||_}
 use mathlib.Core.List.{List, [], _∷_}
-use Prim.Native.Nat.{ℕ, zero, suc, _+_, _<_, _≤_}
+use Prim.Native.Nat.{ℕ, suc, _+_, _<_}
 use native.Mathlib.Numerals.{add-one}
 use native.Mathlib.Omega.{arith}
-use lib.Dec.{T, eqb, leb, eqb→eq}
+use lib.Dec.{T, eqb, eqb→eq}
 use Rattle.std.proofs.shelf.Tests.{false≢true, lt-leb, le-leb, cases-eq, eq-eqb, ne-eqb}
 use Rattle.ledger.specs.declared.Which.the-variants as which
 use Rattle.ledger.specs.declared.Use.the-variants as used
@@ -24,7 +24,7 @@ use Rattle.house.specs.declared.refusals.Refusal.the-variants.{OutOfRange, NoP
 use Rattle.house.specs.Event.{Event, Told}
 use Rattle.house.specs.Machine.{Hw, Steps, withMem, put, counted}
 use Rattle.house.specs.Meaning
-use Rattle.house.specs.Meaning.{State, House, TableOf, Idle, Use, Dev, Opened, isShut, ownerIs, foreign, full, why, acts, excused, takesFrame, useAt, setUse, setDev, Quiet, Under, Over}
+use Rattle.house.specs.Meaning.{State, TableOf, Idle, Use, Dev, Opened, isShut, ownerIs, foreign, full, why, acts, excused, takesFrame, useAt, setUse, setDev, Quiet, Under, Over}
 use Rattle.house.specs.Sound.{viewOf, isPage, Shape}
 use Rattle.house.specs.Kept.{Kept, useMeant, devMeant}
 use Rattle.house.specs.Operations.{Clears, Cleared}
@@ -66,7 +66,7 @@ unfolding isShut devMeant
 shut-meant x e = rw e (tt, tt)
 
 module _ {v : ledger.View} (s : State) (k : Kept v s) (c d : ℕ) where
-  -- one of the tests that make a device foreign
+  -- whether a device of the group is held by another program, in the words of the meaning
   group-free : GroupFree (v .device) (s .devices) (s .group) c d → T (not (foreign s c d))
   group-free g = none-any (s .devices) (λ (e : ℕ). eqb (s .group e) (s .group d) && not (isShut (s .dev e)) && not (ownerIs c (s .dev e))) (λ e lt t.
       let p = both (eqb (s .group e) (s .group d) && not (isShut (s .dev e))) (not (ownerIs c (s .dev e))) t in

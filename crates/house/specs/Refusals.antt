@@ -8,6 +8,7 @@ use Rattle.std.specs.declared.result.Result.{Result}
 use Rattle.std.specs.declared.result.Result.the-variants.{Ok, Err}
 use Rattle.ledger.specs.declared.Loan.the-variants as loan
 use Rattle.ledger.specs.declared.Use.the-variants as used
+use Rattle.ledger.specs.declared.Place.{Place}
 use Rattle.ledger.specs.declared.Place.the-variants as place
 use Rattle.ledger.specs.declared.Device.{Device}
 use Rattle.ledger.specs.declared.Device.the-variants as device
@@ -93,16 +94,16 @@ OpenRefused v n m group driver c d NotPermitted = ⊥
 OpenRefused v n m group driver c d NotBuilt = ⊥
 
 -- the place u of c is to show the registers of device d, of m
-abbrev pub RegsRefused : ledger.View → ℕ → ℕ → ℕ → ℕ → Refusal → Type 0
-RegsRefused v m c d u OutOfRange = (m ≤ d) ⊎ (1024 ≤ u)
-RegsRefused v m c d u NoPage = ⊥
-RegsRefused v m c d u Occupied = (d < m) × (u < 1024) × (v .place c u ≡ place.Nothing → ⊥)
-RegsRefused v m c d u WrongLoan = ⊥
-RegsRefused v m c d u NotYours = (d < m) × (u < 1024) × (v .place c u ≡ place.Nothing) × (v .device d ≡ device.Opened c → ⊥)
-RegsRefused v m c d u Held = ⊥
-RegsRefused v m c d u NoFrame = ⊥
-RegsRefused v m c d u NotPermitted = ⊥
-RegsRefused v m c d u NotBuilt = ⊥
+abbrev pub RegsRefused : (ℕ → ℕ → Place) → (ℕ → Device) → ℕ → ℕ → ℕ → ℕ → Refusal → Type 0
+RegsRefused shown dev m c d u OutOfRange = (m ≤ d) ⊎ (1024 ≤ u)
+RegsRefused shown dev m c d u NoPage = ⊥
+RegsRefused shown dev m c d u Occupied = (d < m) × (u < 1024) × (shown c u ≡ place.Nothing → ⊥)
+RegsRefused shown dev m c d u WrongLoan = ⊥
+RegsRefused shown dev m c d u NotYours = (d < m) × (u < 1024) × (shown c u ≡ place.Nothing) × (dev d ≡ device.Opened c → ⊥)
+RegsRefused shown dev m c d u Held = ⊥
+RegsRefused shown dev m c d u NoFrame = ⊥
+RegsRefused shown dev m c d u NotPermitted = ⊥
+RegsRefused shown dev m c d u NotBuilt = ⊥
 
 -- c gives its page at u to a, at b
 abbrev pub GiveRefused : ledger.View → ℕ → ℕ → ℕ → ℕ → Refusal → Type 0

@@ -1,18 +1,19 @@
 // open and regs: devices that a program drives by itself.
 ghost use mathlib.Core.Path.{_≡_};
-ghost use mathlib.Core.Bool.{true, false};
-ghost use mathlib.Core.List.{List, _∷_};
-ghost use Prim.Native.Nat.{ℕ, _<_, _≤_};
+ghost use mathlib.Core.Bool.{false};
+ghost use mathlib.Core.List.{_∷_};
+ghost use Prim.Native.Nat.{_<_, _≤_};
 ghost use lib.ListN.{length};
 ghost use Rattle.std.specs.Results.{Cases};
 ghost use Rattle.ledger.specs.declared.Use.the-variants.{Idle};
-ghost use Rattle.ledger.specs.declared.Device.the-variants.{Shut};
-ghost use Rattle.ledger.specs.Room.{useOf, deviceOf};
+ghost use Rattle.ledger.specs.declared.Place.the-variants.{Nothing};
+ghost use Rattle.ledger.specs.declared.Device.the-variants.{Shut, Opened};
+ghost use Rattle.ledger.specs.Room.{useOf, placeOf, deviceOf};
 ghost use Rattle.ledger.specs.View.{viewOf};
 ghost use Rattle.ledger.specs.Consistent.{Consistent};
 ghost use Rattle.house.specs.Event.{Told};
 ghost use Rattle.house.specs.Meaning.{Quiet};
-ghost use Rattle.house.specs.Refusals.{answerOf, IfRefused, NeverNo, GroupHeld, GroupFree, OpenRefused};
+ghost use Rattle.house.specs.Refusals.{answerOf, IfRefused, NeverNo, GroupHeld, GroupFree, OpenRefused, RegsRefused};
 ghost use Rattle.house.specs.Serving.{Begins, Keeps};
 use crate::Answer;
 use crate::Call;
@@ -21,7 +22,11 @@ use crate::Machine;
 use crate::frames::Taken;
 use crate::refusals::Refusal;
 use crate::refusals::device;
+use crate::refusals::open_by;
+use crate::refusals::place;
 use crate::refusals::shut;
+use crate::refusals::vacant;
+use ledger::registers::show_registers;
 use ledger::searches::held_by_other;
 
 // `who` is the program that is allowed to open a device.
@@ -81,5 +86,37 @@ pub fn open_device<M: Machine>(
     let f = taken.into_upper_table(room, frames, who, d);
     w.put(DEVICE_TABLE, d, f as u64 + 1);
     *next = f + 1;
+    Ok(Answer::Done)
+}
+
+// What a regs finds in the room, or why it is refused.
+fn plan_registers(room: &[u64], devices: u32, who: u32, d: u32, v: u32) -> Result<(), Refusal>
+    requires { ⌜ 65536 ≤ length (now room) ⌝ ∗ ⌜ devices ≤ 32 ⌝ ∗ ⌜ who < 32 ⌝ }
+    ensures { λ r. ⌜ Cases r (λ _. (d < devices) × (v < 1024) × (placeOf (now (room .entry)) who v ≡ Nothing) × (deviceOf (now (room .entry)) d ≡ Opened who)) (λ e. RegsRefused (placeOf (now (room .entry))) (deviceOf (now (room .entry))) devices who d v e) ⌝ }
+{
+    device(devices, d)?;
+    place(v)?;
+    vacant(room, who, v)?;
+    open_by(room, who, d)
+}
+
+// The place shows the registers of a device that one has open. It takes effect when it does.
+pub fn map_registers<M: Machine>(
+    w: &mut M,
+    room: &mut [u64],
+    who: u32,
+    d: u32,
+    v: u32,
+) -> Result<Answer, Refusal>
+    requires soon { ⌜ 2048 ≤ M·Machine .hw (now w) .left ⌝ }
+    requires begins { ⌜ Begins (now room) who (Call.Regs d v) (M·Machine .hw (now w)) (M·Machine .seen (now w)) ⌝ }
+    ensures told { λ r. ⌜ Keeps (now (room .exit)) Quiet (M·Machine .hw (now (w .exit))) (Told who (Call.Regs d v) (answerOf r) ∷ M·Machine .seen (now (w .exit))) ⌝ }
+    ensures accepted { λ r. ⌜ NeverNo r ⌝ }
+    ensures refused { λ r. ⌜ IfRefused r ((now (room .exit) ≡ now (room .entry)) × (M·Machine .hw (now (w .exit)) ≡ M·Machine .hw (now (w .entry))) × (M·Machine .seen (now (w .exit)) ≡ M·Machine .seen (now (w .entry)))) ⌝ }
+{
+    let frames = w.frames();
+    plan_registers(room, w.devices(), who, d, v)?;
+    w.show_registers(who, v, d);
+    show_registers(room, frames, who, v, d);
     Ok(Answer::Done)
 }

@@ -21,12 +21,14 @@ mod refusals;
 pub mod simulation;
 pub mod theorems;
 
+use devices::map_registers;
 use devices::open_device;
 use frames::clear;
 use ledger::setup::set_up;
 use pages::free;
 use pages::get;
 use recalls::recall;
+use pages::give;
 use refusals::Refusal;
 
 // the frame in which the device table is
@@ -192,10 +194,10 @@ impl Keeper {
         match c {
             Call::Get { v } => get(w, room, &mut self.next, who, v),
             Call::Free { v } => free(w, room, who, v),
-            Call::Give { .. } => Err(Refusal::NotBuilt),
+            Call::Give { v, to, at } => give(w, room, who, v, to, at),
             Call::Open { d } => open_device(w, room, &mut self.next, who, d),
             Call::Close { .. } => Err(Refusal::NotBuilt),
-            Call::Regs { .. } => Err(Refusal::NotBuilt),
+            Call::Regs { d, v } => map_registers(w, room, who, d, v),
             Call::Lend { .. } => Err(Refusal::NotBuilt),
             Call::Recall { v } => recall(w, room, who, v),
             Call::End { .. } => Err(Refusal::NotBuilt),

@@ -132,3 +132,14 @@ pub fn open_by(room: &[u64], who: u32, d: u32) -> Result<(), Refusal>
         _ => Err(Refusal::NotYours),
     }
 }
+
+// A program.
+pub fn program(c: u32) -> Result<(), Refusal>
+    ensures { λ r. ⌜ Cases r (λ _. c < 32) (λ e. (e ≡ Refusal.OutOfRange) × (32 ≤ c)) ⌝ }
+{
+    if c < 32 {
+        Ok(())
+    } else {
+        Err(Refusal::OutOfRange)
+    }
+}

@@ -3,14 +3,8 @@ use Rattle.house.proofs.Between.{keeps-unbuilt}
 use Rattle.house.proofs.Built.{unbuilt}
 use Rattle.house.proofs.Keeper.call.Needs as need
 
-pub returns-in-Give : need.returns-in-Give
-returns-in-Give g c = record { told = keeps-unbuilt (unbuilt (c .in-Give .is) tt) (c .pre .begins); refused = (refl, refl, refl, refl); accepted = tt }
-
 pub returns-in-Close : need.returns-in-Close
 returns-in-Close g c = record { told = keeps-unbuilt (unbuilt (c .in-Close .is) tt) (c .pre .begins); refused = (refl, refl, refl, refl); accepted = tt }
-
-pub returns-in-Regs : need.returns-in-Regs
-returns-in-Regs g c = record { told = keeps-unbuilt (unbuilt (c .in-Regs .is) tt) (c .pre .begins); refused = (refl, refl, refl, refl); accepted = tt }
 
 pub returns-in-Lend : need.returns-in-Lend
 returns-in-Lend g c = record { told = keeps-unbuilt (unbuilt (c .in-Lend .is) tt) (c .pre .begins); refused = (refl, refl, refl, refl); accepted = tt }
