@@ -16,6 +16,7 @@ use Rattle.ledger.specs.Uses as tests
 use Rattle.ledger.specs.Changes.{withLoan}
 use Rattle.ledger.specs.Consistent.{Coherent, Consistent}
 use Rattle.house.specs.declared.Call.the-variants.{Recall}
+use Rattle.house.specs.declared.Answer.{Answer}
 use Rattle.house.specs.declared.Answer.the-variants.{Done, Later, No}
 use Rattle.house.specs.declared.refusals.Refusal.{Refusal}
 use Rattle.house.specs.declared.refusals.Refusal.the-variants.{OutOfRange, NoPage, Occupied, WrongLoan, NotYours, Held, NoFrame, NotPermitted, NotBuilt}
@@ -26,8 +27,8 @@ use Rattle.house.specs.Meaning.{Loan, Home, Lent, Leaving, Use, TableOf, Of, S
 use Rattle.house.specs.Promise.{can, startOf}
 use Rattle.house.specs.Sound.{viewOf, Sound, SoundAt, isPage}
 use Rattle.house.specs.Kept.{Kept, tablesIn, useMeant, loanMeant}
-use Rattle.house.specs.Mappings.{recalled, Away}
-use Rattle.house.specs.Refusals.{numberOf, RecallRefused}
+use Rattle.house.specs.Mappings.{recalled, Away, Settled}
+use Rattle.house.specs.Refusals.{numberOf, IfNo, RecallRefused}
 use Rattle.house.specs.Serving.{Progress, nothingCut, Holds, Keeps, Begins}
 use Rattle.house.proofs.Shelf.{is-true, is-false, left, right, in-here, other-number}
 use Rattle.house.proofs.Facts.{change-at, change-here, put-here, put-elsewhere, page-back}
@@ -341,7 +342,7 @@ unmapped {room} {room2} {who} {u} {n} {f} {d} {p} {t} {w} {h} {i} {es} {fs} q b 
     }
 
 -- the unit has forgotten the device: done
-pub recall-done : {room room2 room3 : List ℕ} {who u n f d p t : ℕ} {w : Bool} {h i j : Hw} {es fs gs : List Event} → n ≡ h .frames → Begins room who (Recall u) h es → u < 1024 → Away (ledger.viewOf n room) who u f d p t w →
+recall-done : {room room2 room3 : List ℕ} {who u n f d p t : ℕ} {w : Bool} {h i j : Hw} {es fs gs : List Event} → n ≡ h .frames → Begins room who (Recall u) h es → u < 1024 → Away (ledger.viewOf n room) who u f d p t w →
     Consistent n room2 → ledger.viewOf n room2 ≡ withLoan who u f (loan.Leaving d p w) (ledger.viewOf n room) → Steps (counted (withMem (put t (p % 512) 0 (h .mem)) h)) es i fs → Drains d i fs true j gs →
     Consistent n room3 → ledger.viewOf n room3 ≡ withLoan who u f loan.Home (ledger.viewOf n room2) → Keeps room3 Quiet j (Told who (Recall u) Done ∷ gs)
 recall-done {d = d} {p = p} {t = t} q b lt x k e m y k3 e3 =
@@ -354,7 +355,7 @@ recall-done {d = d} {p = p} {t = t} q b lt x k e m y k3 e3 =
     keeps-done (steps-same (z .after) .frames ∙ sym r) k3 e3 (holds-steps g (z .after))
 
 -- it has not: later
-pub recall-later : {room room2 : List ℕ} {who u n f d p t : ℕ} {w : Bool} {h i j : Hw} {es fs gs : List Event} → n ≡ h .frames → Begins room who (Recall u) h es → u < 1024 → Away (ledger.viewOf n room) who u f d p t w →
+recall-later : {room room2 : List ℕ} {who u n f d p t : ℕ} {w : Bool} {h i j : Hw} {es fs gs : List Event} → n ≡ h .frames → Begins room who (Recall u) h es → u < 1024 → Away (ledger.viewOf n room) who u f d p t w →
     Consistent n room2 → ledger.viewOf n room2 ≡ withLoan who u f (loan.Leaving d p w) (ledger.viewOf n room) → Steps (counted (withMem (put t (p % 512) 0 (h .mem)) h)) es i fs → Drains d i fs false j gs →
     Keeps room2 Quiet j (Told who (Recall u) Later ∷ gs)
 recall-later {d = d} q b lt x k e m y =
@@ -365,3 +366,10 @@ recall-later {d = d} q b lt x k e m y =
     let g = holds-steps (recall-leaving (o .left) r c) (z .after) in
     let s = steps-same (z .after) .frames ∙ sym r in
     keeps-told s k refl g (later-told (o .left) (sym s) g)
+
+pub recall-settled : {room room2 room3 : List ℕ} {who u n f d p t : ℕ} {w : Bool} {h i j : Hw} {es fs gs : List Event} (r : Answer) → n ≡ h .frames → Begins room who (Recall u) h es → u < 1024 → Away (ledger.viewOf n room) who u f d p t w →
+    Consistent n room2 → ledger.viewOf n room2 ≡ withLoan who u f (loan.Leaving d p w) (ledger.viewOf n room) → Steps (counted (withMem (put t (p % 512) 0 (h .mem)) h)) es i fs → Settled n who u f d room2 room3 i fs j gs r →
+    Keeps room3 Quiet j (Told who (Recall u) r ∷ gs) × IfNo r ⊥
+recall-settled Done q b lt x k e m o = (recall-done q b lt x k e m (o .0) (o .1) (o .2), tt)
+recall-settled {who = who} {u = u} {j = j} {gs = gs} Later q b lt x k e m o = (subst (λ (r : List ℕ). Keeps r Quiet j (Told who (Recall u) Later ∷ gs)) (sym (o .1)) (recall-later q b lt x k e m (o .0)), tt)
+recall-settled (No y) q b lt x k e m o = absurd o

@@ -1,7 +1,7 @@
 // recall: a page that a device has comes home.
 ghost use mathlib.Core.Path.{_≡_};
 ghost use mathlib.Core.List.{_∷_};
-ghost use Prim.Native.Nat.{ℕ, _<_, _≤_};
+ghost use Prim.Native.Nat.{ℕ, _%_, _<_, _≤_};
 ghost use Rattle.std.specs.Results.{Cases};
 ghost use Rattle.ledger.specs.declared.Loan.the-variants.{Home, Leaving};
 ghost use Rattle.ledger.specs.declared.Place.the-variants.{Page};
@@ -11,8 +11,10 @@ ghost use Rattle.ledger.specs.Uses.{loanIn};
 ghost use Rattle.ledger.specs.Consistent.{Consistent};
 ghost use Rattle.ledger.specs.Changes.{withLoan};
 ghost use Rattle.house.specs.Event.{Told};
+ghost use Rattle.house.specs.Machine.{Steps, counted, withMem, put};
 ghost use Rattle.house.specs.Meaning.{Quiet};
-ghost use Rattle.house.specs.Mappings.{Away, recalled};
+ghost use Rattle.house.specs.Mappings.{Away, Settled, recalled};
+ghost use Rattle.house.specs.Operations.{Asked1};
 ghost use Rattle.house.specs.Refusals.{answerOf, IfRefused, NeverNo, RecallRefused};
 ghost use Rattle.house.specs.Serving.{Begins, Keeps};
 use crate::Answer;
@@ -131,6 +133,38 @@ fn bring_home(room: &mut [u64], frames: u32, who: u32, v: u32, m: Mapping, forgo
     set_loan(room, frames, who, v, m.frame, Loan::Home);
 }
 
+// Clears the entry of the page, and nothing else.
+fn unmap<M: Machine>(w: &mut M, m: Mapping)
+    requires { ⌜ 0 < M·Machine .hw (now w) .left ⌝ ∗ ⌜ m .table < M·Machine .hw (now w) .frames ⌝ }
+    ensures steps { λ _. ⌜ Steps (counted (withMem (put (m .table) (m .to .page % 512) 0 (M·Machine .hw (now (w .entry)) .mem)) (M·Machine .hw (now (w .entry))))) (M·Machine .seen (now (w .entry))) (M·Machine .hw (now (w .exit))) (M·Machine .seen (now (w .exit))) ⌝ }
+    ensures asked { λ _. ⌜ Asked1 (M·Machine .hw (now (w .entry))) (M·Machine .hw (now (w .exit))) ⌝ }
+{
+    write(w, m.table, m.to.page % 512, 0);
+}
+
+// Asks the IOMMU once to forget the device: the page is home if it has, and else leaving still.
+fn settle<M: Machine>(
+    w: &mut M,
+    room: &mut [u64],
+    frames: u32,
+    who: u32,
+    v: u32,
+    m: Mapping,
+) -> Answer
+    requires asks { ⌜ 0 < M·Machine .hw (now w) .left ⌝ ∗ ⌜ m .to .device < M·Machine .hw (now w) .devices ⌝ }
+    requires consistent { ⌜ Consistent frames (now room) ⌝ }
+    requires page { ⌜ who < 32 ⌝ ∗ ⌜ v < 1024 ⌝ ∗ ⌜ placeOf (now room) who v ≡ Page (m .frame) ⌝ }
+    ensures { λ r. ⌜ Settled frames who v (m .frame) (m .to .device) (now (room .entry)) (now (room .exit)) (M·Machine .hw (now (w .entry))) (M·Machine .seen (now (w .entry))) (M·Machine .hw (now (w .exit))) (M·Machine .seen (now (w .exit))) r ⌝ }
+{
+    match Forgotten::ask(w, m.to.device) {
+        Some(forgotten) => {
+            bring_home(room, frames, who, v, m, forgotten);
+            Answer::Done
+        }
+        None => Answer::Later,
+    }
+}
+
 // One's page at v, which a device has, comes home. Its entry is cleared, and the IOMMU is asked once to forget the device: the call
 // takes effect at the moment of that answer, and if it was no, the page is leaving still.
 pub fn recall<M: Machine>(w: &mut M, room: &mut [u64], who: u32, v: u32) -> Result<Answer, Refusal>
@@ -143,12 +177,6 @@ pub fn recall<M: Machine>(w: &mut M, room: &mut [u64], who: u32, v: u32) -> Resu
     let frames = w.frames();
     let m = plan_recall(room, frames, who, v)?;
     let_go(room, frames, who, v, m);
-    write(w, m.table, m.to.page % 512, 0);
-    match Forgotten::ask(w, m.to.device) {
-        Some(forgotten) => {
-            bring_home(room, frames, who, v, m, forgotten);
-            Ok(Answer::Done)
-        }
-        None => Ok(Answer::Later),
-    }
+    unmap(w, m);
+    Ok(settle(w, room, frames, who, v, m))
 }
