@@ -20,7 +20,7 @@ use Rattle.house.specs.Serving.{Progress, Holds}
 use Rattle.house.proofs.Steps.{steps-keep}
 use Rattle.house.proofs.Facts.{put-elsewhere, put-here}
 use Rattle.house.proofs.Uses.{mem-keeps}
-use Rattle.house.proofs.Pages.{words-put}
+use Rattle.house.proofs.PageWords.{words-put}
 use Rattle.house.proofs.Between.{holds-steps}
 
 -- what the keeper has of an idle frame, in the words of the meaning
@@ -46,6 +46,7 @@ put-idle {h = h} a f k x e =
     let i = idle-meant a f e in
     let other = λ (d : ℕ). put-elsewhere f k x (h .mem) 0 d (idle-not-house a f e) in
     record {
+      fits = a .fits;
       state = a .state;
       run = a .run;
       shape = a .shape;
@@ -58,7 +59,8 @@ put-idle {h = h} a f k x e =
       shown = a .shown;
       roots = λ d c q. other d ∙ a .roots d c q;
       severed = λ d q. other d ∙ a .severed d q;
-      forgot = a .forgot }
+      forgot = a .forgot;
+    }
 
 idle-home : T (isHome (loanOf Idle))
 unfolding isHome loanOf
@@ -79,4 +81,5 @@ clears-idle {f = f} a e (Clears.more {n = m} {i = i} c t) =
     let b = put-idle (o .holds) f m 0 e in
     record {
       holds = holds-steps b t;
-      zeros = λ k lt. steps-quiet b t f k (subst (λ (y : Use). T (isHome (loanOf y))) (sym (idle-meant b f e)) idle-home) ∙ cleared f m (i .mem) (o .zeros) k lt }
+      zeros = λ k lt. steps-quiet b t f k (subst (λ (y : Use). T (isHome (loanOf y))) (sym (idle-meant b f e)) idle-home) ∙ cleared f m (i .mem) (o .zeros) k lt;
+    }

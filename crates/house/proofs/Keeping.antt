@@ -25,7 +25,8 @@ module _ {v : ledger.View} (s : State) (k : Kept v s) where
     usesAre = λ g. meant-change useMeant (eqb g f) x (v .used g) (s .what g) (k .usesAre g);
     devsAre = k .devsAre;
     slotsAre = k .slotsAre;
-    regsAre = k .regsAre }
+    regsAre = k .regsAre;
+  }
 
   -- a change of all uses
   pub kept-uses : (φ : uses.Use → uses.Use) (ψ : Use → Use) → ((x : uses.Use) → ψ (useMeant x) ≡ useMeant (φ x)) → Kept (changes.withUses φ v) (setUse (λ f. ψ (s .what f)) s)
@@ -33,7 +34,8 @@ module _ {v : ledger.View} (s : State) (k : Kept v s) where
     usesAre = λ g. ap ψ (k .usesAre g) ∙ e (v .used g);
     devsAre = k .devsAre;
     slotsAre = k .slotsAre;
-    regsAre = k .regsAre }
+    regsAre = k .regsAre;
+  }
 
   -- a place shows something else, but no other registers
   pub kept-place : (c u : ℕ) (p : Place) → s .regs c u ≡ regsMeant p → Kept (ledger.withPlace c u p v) s
@@ -41,7 +43,8 @@ module _ {v : ledger.View} (s : State) (k : Kept v s) where
     usesAre = k .usesAre;
     devsAre = k .devsAre;
     slotsAre = k .slotsAre;
-    regsAre = λ a b. sym (same a b (eqb a c && eqb b u) refl) ∙ meant-change regsMeant (eqb a c && eqb b u) p (v .place a b) (s .regs a b) (k .regsAre a b) }
+    regsAre = λ a b. sym (same a b (eqb a c && eqb b u) refl) ∙ meant-change regsMeant (eqb a c && eqb b u) p (v .place a b) (s .regs a b) (k .regsAre a b);
+  }
     where
       same : (a b : ℕ) (t : Bool) → (eqb a c && eqb b u) ≡ t → cond (eqb a c && eqb b u) (regsMeant p) (s .regs a b) ≡ s .regs a b
       same a b true q = rw q (let r = and-parts (eqb a c) (eqb b u) q in rw (eqb-true a c (r .0), eqb-true b u (r .1)) (sym e))
@@ -52,14 +55,16 @@ module _ {v : ledger.View} (s : State) (k : Kept v s) where
     usesAre = k .usesAre;
     devsAre = k .devsAre;
     slotsAre = k .slotsAre;
-    regsAre = λ a b. meant-change regsMeant (eqb a c && eqb b u) p (v .place a b) (s .regs a b) (k .regsAre a b) }
+    regsAre = λ a b. meant-change regsMeant (eqb a c && eqb b u) p (v .place a b) (s .regs a b) (k .regsAre a b);
+  }
 
   pub kept-device : (d : ℕ) (x : Device) → Kept (ledger.withDevice d x v) (setDev (λ e. cond (eqb e d) (devMeant x) (s .dev e)) s)
   kept-device d x = record {
     usesAre = k .usesAre;
     devsAre = λ e. meant-change devMeant (eqb e d) x (v .device e) (s .dev e) (k .devsAre e);
     slotsAre = k .slotsAre;
-    regsAre = k .regsAre }
+    regsAre = k .regsAre;
+  }
 
   pub kept-top : (d f : ℕ) → Kept (ledger.withTop d f v) s
   kept-top d f = record { usesAre = k .usesAre; devsAre = k .devsAre; slotsAre = k .slotsAre; regsAre = k .regsAre }
@@ -69,7 +74,8 @@ module _ {v : ledger.View} (s : State) (k : Kept v s) where
     usesAre = k .usesAre;
     devsAre = k .devsAre;
     slotsAre = λ e j. go (eqb e d && eqb j i) (s .slots e j) (v .low e j) (k .slotsAre e j);
-    regsAre = k .regsAre }
+    regsAre = k .regsAre;
+  }
     where
       go : (b t : Bool) (x : ℕ) → t ≡ not (eqb x 0) → (t || b) ≡ not (eqb (cond b (suc f) x) 0)
       go true true x e = sym (ap not (ne-eqb (suc f) 0 (λ z. omega arith)))

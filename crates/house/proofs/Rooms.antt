@@ -9,7 +9,7 @@ use lib.Dec.{T, eqb, ltb, eqb→eq}
 use Rattle.std.proofs.shelf.Tests.{false≢true, and-parts, eqb-true, lt-ltb, le-ltb, cases-lt, cond-false}
 use lib.ListN.{length}
 use Rattle.ledger.specs.declared.Loan as loans
-use Rattle.ledger.specs.declared.Loan.the-variants as loan
+use Rattle.ledger.specs.declared.Loan.the-variants as lending
 use Rattle.ledger.specs.declared.Use as uses
 use Rattle.ledger.specs.declared.Use.the-variants as used
 use Rattle.ledger.specs.declared.Place.{Place}
@@ -20,10 +20,10 @@ use Rattle.ledger.specs.View as ledger
 use Rattle.ledger.specs.Uses as tests
 use Rattle.ledger.specs.Consistent.{Coherent, Consistent, PlaceOk, FrameOk, LoanOk}
 use Rattle.house.specs.Machine.{Shown, Nothing, Frame, Registers}
-use Rattle.house.specs.Meaning.{Loan, Home, Lent, Leaving, Use, House, TableOf, Idle, Of, Dev, Shut, Opened, Closing, State, isOf, isIdle, any, first, has, frameOf, taken, full, idle}
+use Rattle.house.specs.Meaning.{Loan, Home, Lent, Leaving, Use, House, TableOf, Idle, Of, Dev, Shut, Opened, Closing, State, isOf, isIdle, any, first, has, frameOf, taken, full, idle, loan, loanOf, isHome}
 use Rattle.house.specs.Sound.{ShownAt, ShowsIn, ShowsRight}
 use Rattle.house.specs.Kept.{Kept, KeptIn, useMeant, loanMeant, devMeant, regsMeant, shownMeant}
-use Rattle.house.proofs.Shelf.{both, pair, is-true, is-false, from-true, same-number, any-from, any-some, none-any, first-passes, nor, right, other-number}
+use Rattle.house.proofs.Shelf.{both, pair, is-true, is-false, from-true, same-number, any-from, any-some, none-any, first-passes, nor, left, right, other-number}
 
 -- every frame past the last is idle
 abbrev pub Inside : ℕ → ledger.View → Type 0
@@ -68,6 +68,15 @@ module _ {v : ledger.View} (co : Coherent v) where
   pub registers-ok : (c u d : ℕ) → v .place c u ≡ place.Registers d → v .device d ≡ device.Opened c
   registers-ok c u d e = subst (λ (x : Place). PlaceOk (v .used) (v .device) c u x) e (co .places c u)
 
+abbrev loans-home : loans.Loan
+loans-home = lending.Home
+
+away-meant : (l : loans.Loan) → (l ≡ loans-home → ⊥) → T (not (isHome (loanMeant l)))
+unfolding isHome loanMeant
+away-meant lending.Home n = absurd (n refl)
+away-meant (lending.Lent d p w) n = tt
+away-meant (lending.Leaving d p w) n = tt
+
 -- a use that is a page of c at u, in the words of the meaning
 pub of-page : (c u : ℕ) (x : uses.Use) → T (isOf c u (useMeant x)) → (l : loans.Loan) × (x ≡ used.PageOf c u l)
 unfolding isOf useMeant
@@ -108,6 +117,18 @@ module _ {v : ledger.View} (s : State) (co : Coherent v) (k : Kept v s) (inside 
   unfolding useMeant
   page-use c u f l e = k .usesAre f ∙ ap useMeant e
 
+  -- the loan of the page at a place
+  pub loan-there : (c u f : ℕ) → v .place c u ≡ place.Page f → loan s c u ≡ loanMeant (tests.loanIn (v .used f))
+  unfolding loanOf
+  loan-there c u f e =
+      let p = page-there co c u f e in
+      let q = page-has c u f e in
+      let w = page-use c u f (p .0) (p .1) in
+      ap (λ (g : ℕ). loanOf (s .what g)) (q .1) ∙ (ap loanOf w ∙ ap (λ (x : uses.Use). loanMeant (tests.loanIn x)) (sym (p .1)))
+
+  pub loan-away : (c u f : ℕ) → v .place c u ≡ place.Page f → (tests.loanIn (v .used f) ≡ loans-home → ⊥) → T (not (isHome (loan s c u)))
+  loan-away c u f e away = subst (λ (x : Loan). T (not (isHome x))) (sym (loan-there c u f e)) (away-meant (tests.loanIn (v .used f)) away)
+
   pub no-page : (c u : ℕ) → ((f : ℕ) → v .place c u ≡ place.Page f → ⊥) → T (not (has s c u))
   no-page c u none = none-any (s .frames) (λ (g : ℕ). isOf c u (s .what g)) (λ f lt t.
       let o = of-page c u (v .used f) (subst (λ (x : Use). T (isOf c u x)) (k .usesAre f) t) in
@@ -124,6 +145,15 @@ module _ {v : ledger.View} (s : State) (co : Coherent v) (k : Kept v s) (inside 
   registers-taken c u d e =
       let r : s .regs c u ≡ suc d = k .regsAre c u ∙ ap regsMeant e in
       (r, right (has s c u) (not (eqb (s .regs c u) 0)) (rw r (other-number (suc d) 0 (λ e. omega arith))))
+
+  -- something is there: a page or registers
+  pub occupied : (c u : ℕ) → (v .place c u ≡ place.Nothing → ⊥) → T (taken s c u)
+  occupied c u some = go (v .place c u) refl
+    where
+      go : (p : Place) → v .place c u ≡ p → T (taken s c u)
+      go place.Nothing q = absurd (some q)
+      go (place.Page f) q = left (has s c u) (not (eqb (s .regs c u) 0)) (page-has c u f q .0)
+      go (place.Registers d) q = registers-taken c u d q .1
 
   -- what each place shows is what the meaning has there
   pub shown-right : (space : ℕ → ℕ → Shown) → ((c u : ℕ) → c < 32 → u < 1024 → space c u ≡ shownMeant (v .place c u)) → ShownAt s space

@@ -172,6 +172,7 @@ keeps-started {room} {h} {i} {j} {es} {fs} {gs} a e t v c m =
     let o = off-clears a (subst (λ (z : List Event). Clears 0 h z 512 i fs) e (c .words)) in
     let q = steps-same m in
     let x : Holds empty (nothingCut [] []) Quiet (counted (started i)) fs = record {
+      fits = record { least = rw (o .frames) (a .1); most = rw (o .frames) (a .2); few = rw (o .devices) (a .3); groups = λ d. rw (o .group) (a .4 d); drivers = λ d. rw (o .driver) (a .5 d) };
       state = setWord (o .word) (startOf h);
       run = subst (λ (z : State). Run can z fs (setWord (o .word) (startOf h)) Quiet) (λ x. Meaning.atStart (sym (o .frames) x) (sym (o .devices) x) (sym (o .group) x) (sym (o .driver) x) 1) (o .run);
       shape = record { framesAre = sym (o .frames); devicesAre = sym (o .devices); groupIs = sym (o .group); driverIs = sym (o .driver) };
@@ -186,8 +187,7 @@ keeps-started {room} {h} {i} {j} {es} {fs} {gs} a e t v c m =
       severed = λ d x. absurd x;
       forgot = λ d x w. absurd x;
     } in
-    moved h (record { framesAre = q .frames ∙ o .frames; devicesAre = q .devices ∙ o .devices; groupIs = q .group ∙ o .group; driverIs = q .driver ∙ o .driver })
-    (record { least = a .1; most = a .2; few = a .3; groups = a .4; drivers = a .5 }) t [] [] (subst (λ (z : ledger.View). Holds z (nothingCut [] []) Quiet j gs) (sym v) (holds-steps x m))
+    moved (h .frames) (q .frames ∙ o .frames) t [] [] (subst (λ (z : ledger.View). Holds z (nothingCut [] []) Quiet j gs) (sym v) (holds-steps x m))
 
 -- the same for a room that was set up for as many frames as the machine has
 pub keeps-booted : {room : List ℕ} {n : ℕ} {h i j : Hw} {es fs gs : List Event} → AtStart h → es ≡ [] → n ≡ h .frames → Consistent n room → ledger.viewOf n room ≡ empty → Cleared 0 h es 512 i fs →

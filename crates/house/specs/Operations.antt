@@ -17,3 +17,9 @@ pub record Cleared (f : ℕ) (h : Hw) (es : List Event) (n : ℕ) (j : Hw) (gs :
   pub left : j .left + n ≡ h .left
   pub frames : j .frames ≡ h .frames
   pub devices : j .devices ≡ h .devices
+
+-- one operation was asked for: the count falls by one, and the machine's shape stays
+pub record Asked1 (h j : Hw) : Type 0 where
+  pub left : j .left + 1 ≡ h .left
+  pub frames : j .frames ≡ h .frames
+  pub devices : j .devices ≡ h .devices

@@ -41,6 +41,7 @@ nothingCut a b = record { cut = λ d. false; hidden = λ c u. false; yeses = a; 
 -- Some state explains all that has happened, and the room's view and the hardware are as it says, but for what the call under way
 -- has cut or hidden already.
 pub record Holds (v : ledger.View) (p : Progress) (n : Now) (h : Hw) (es : List Event) : Type 0 where
+  pub fits : Fits h
   pub state : State
   pub run : Run can (startOf h) es state n
   pub shape : Shape state h
@@ -57,7 +58,6 @@ pub record Holds (v : ledger.View) (p : Progress) (n : Now) (h : Hw) (es : List 
 
 -- between calls
 pub record Keeps (room : List ℕ) (n : Now) (h : Hw) (es : List Event) : Type 0 where
-  pub fits : Fits h
   pub tidy : Consistent (h .frames) room
   pub yeses : List ℕ
   pub noes : List ℕ
@@ -65,7 +65,6 @@ pub record Keeps (room : List ℕ) (n : Now) (h : Hw) (es : List Event) : Type 0
 
 -- as a call begins: no device was drained yet
 pub record Begins (room : List ℕ) (who : ℕ) (c : Call) (h : Hw) (es : List Event) : Type 0 where
-  pub fits : Fits h
   pub tidy : Consistent (h .frames) room
   pub program : who < 32
   pub holds : Holds (ledger.viewOf (h .frames) room) (nothingCut [] []) (Under who c) h es

@@ -7,13 +7,29 @@ ghost use lib.Dec.{T};
 ghost use Rattle.house.specs.Event.{Event, Told};
 ghost use Rattle.house.specs.Machine.{Hw, Frame, Registers, Nothing, AtStart, Steps, Drains, Comes, withMem, counted, put, shows, started};
 ghost use Rattle.house.specs.Meaning.{Explained, Quiet};
-ghost use Rattle.house.specs.Promise.{can, roomOf, startOf};
+ghost use Rattle.house.specs.Promise.{can, roomOf, startOf, OnePlace, LentByDriver, HomeIsQuiet, NewIsNoughts};
+ghost use Rattle.house.specs.Refusals.{answerOf, IfRefused, IfNo, NeverNo};
 ghost use Rattle.house.specs.Serving.{Keeps, Begins};
 
+mod devices;
+mod drains;
 mod frames;
+mod operations;
+mod pages;
+mod recalls;
+mod refusals;
+pub mod simulation;
+pub mod theorems;
 
+use devices::map_registers;
+use devices::open_device;
 use frames::clear;
 use ledger::setup::set_up;
+use pages::free;
+use pages::get;
+use recalls::recall;
+use pages::give;
+use refusals::Refusal;
 
 // the frame in which the device table is
 const DEVICE_TABLE: u32 = 0;
@@ -148,13 +164,44 @@ pub fn boot<M: Machine>(w: &mut M, room: &mut [u64]) -> Keeper
 }
 
 impl Keeper {
-    // Serves one call of a program. As no call is built, each is answered by 9.
+    // Serves one call of a program. A refused call asks the machine for nothing that counts, and leaves all as it was.
     pub fn serve<M: Machine>(&mut self, w: &mut M, room: &mut [u64], who: u32, c: Call) -> Answer
         requires soon { ⌜ 2048 ≤ hw (now w) .left ⌝ }
         requires begins { ⌜ Begins (now room) who c (hw (now w)) (seen (now w)) ⌝ }
-        ensures { λ r. ⌜ Keeps (now (room .exit)) Quiet (hw (now (w .exit))) (Told who c r ∷ seen (now (w .exit))) ⌝ }
+        ensures keeps { λ r. ⌜ Keeps (now (room .exit)) Quiet (hw (now (w .exit))) (Told who c r ∷ seen (now (w .exit))) ⌝ }
+        ensures refused { λ r. ⌜ IfNo r ((now (room .exit) ≡ now (room .entry)) × (hw (now (w .exit)) ≡ hw (now (w .entry))) × (seen (now (w .exit)) ≡ seen (now (w .entry))) × (now (self .exit) .next ≡ now (self .entry) .next)) ⌝ }
     {
-        Answer::No(9)
+        match self.call(w, room, who, c) {
+            Ok(a) => a,
+            Err(e) => Answer::No(e.number()),
+        }
+    }
+
+    // One row for each call that is built.
+    fn call<M: Machine>(
+        &mut self,
+        w: &mut M,
+        room: &mut [u64],
+        who: u32,
+        c: Call,
+    ) -> Result<Answer, Refusal>
+        requires soon { ⌜ 2048 ≤ hw (now w) .left ⌝ }
+        requires begins { ⌜ Begins (now room) who c (hw (now w)) (seen (now w)) ⌝ }
+        ensures told { λ r. ⌜ Keeps (now (room .exit)) Quiet (hw (now (w .exit))) (Told who c (answerOf r) ∷ seen (now (w .exit))) ⌝ }
+        ensures refused { λ r. ⌜ IfRefused r ((now (room .exit) ≡ now (room .entry)) × (hw (now (w .exit)) ≡ hw (now (w .entry))) × (seen (now (w .exit)) ≡ seen (now (w .entry))) × (now (self .exit) .next ≡ now (self .entry) .next)) ⌝ }
+        ensures accepted { λ r. ⌜ NeverNo r ⌝ }
+    {
+        match c {
+            Call::Get { v } => get(w, room, &mut self.next, who, v),
+            Call::Free { v } => free(w, room, who, v),
+            Call::Give { v, to, at } => give(w, room, who, v, to, at),
+            Call::Open { d } => open_device(w, room, &mut self.next, who, d),
+            Call::Close { .. } => Err(Refusal::NotBuilt),
+            Call::Regs { d, v } => map_registers(w, room, who, d, v),
+            Call::Lend { .. } => Err(Refusal::NotBuilt),
+            Call::Recall { v } => recall(w, room, who, v),
+            Call::End { .. } => Err(Refusal::NotBuilt),
+        }
     }
 }
 
@@ -185,4 +232,25 @@ pub fn keeper_is_small() -> bool
     ensures { λ r. ⌜ T r ⌝ }
 {
     std::mem::size_of::<Keeper>() <= 4096
+}
+
+// No two frames are at one place, or at one page of a device.
+pub fn one_place() -> u8
+    ensures { λ _. ⌜ OnePlace ⌝ }
+{
+    0
+}
+
+// A loan's owner has the device, and the devices of a group that are held have one holder.
+pub fn lent_by_driver() -> u8
+    ensures { λ _. ⌜ LentByDriver ⌝ }
+{
+    0
+}
+
+// A device touches only what is lent to it or leaving it there; a new page is noughts.
+pub fn home_is_quiet() -> u8
+    ensures { λ _. ⌜ HomeIsQuiet ⌝ ∗ ⌜ NewIsNoughts ⌝ }
+{
+    0
 }

@@ -4,3 +4,8 @@ pub mod Moves
 pub mod Coherence
 pub mod Laws
 pub mod Operations
+pub mod Swept
+pub mod Closed
+pub mod Searched
+pub mod Emptied
+pub mod Loaned

@@ -1,7 +1,7 @@
 -- What the operations make of a room's view.
 use mathlib.Core.Bool.{cond, _&&_}
 use Prim.Native.Nat.{ℕ, suc}
-use lib.Dec.{eqb}
+use lib.Dec.{eqb, ltb}
 use Rattle.ledger.specs.declared.Loan.{Loan}
 use Rattle.ledger.specs.declared.Loan.the-variants.{Home}
 use Rattle.ledger.specs.declared.Which.the-variants.{Upper, Lower}
@@ -10,7 +10,7 @@ use Rattle.ledger.specs.declared.Use.the-variants.{House, TableOf, Idle, PageO
 use Rattle.ledger.specs.declared.Place.the-variants.{Nothing, Page, Registers}
 use Rattle.ledger.specs.declared.Device.the-variants.{Shut, Opened, Closing}
 use Rattle.ledger.specs.View.{View, withUse, withPlace, withDevice, withTop, withLow}
-use Rattle.ledger.specs.Uses.{mapLoan, leavingFrom, homeFrom, noTable, noPage, notOf}
+use Rattle.ledger.specs.Uses.{mapLoan, leavingFrom, homeFrom, noTable, noLower, noLowers, noPage, notOf, notBelow, noRegisters}
 
 -- frame 0 the house's, every other idle, nothing shown, every device shut, no table
 abbrev pub empty : View
@@ -53,6 +53,14 @@ abbrev pub shutDevice : ℕ → View → View
 shutDevice d s =
     record { used = λ f. noTable d (mapLoan (homeFrom d) (s .used f)); place = s .place; device = λ e. cond (eqb e d) Shut (s .device e); top = λ e. cond (eqb e d) 0 (s .top e); low = λ e i. cond (eqb e d) 0 (s .low e i) }
 
+-- slot i of d has no lower table, and if there was one it is idle
+abbrev pub withoutLower : ℕ → ℕ → View → View
+withoutLower d i s = withLow d i 0 (withUses (noLower d i) s)
+
+-- no slot of d has a lower table
+abbrev pub withoutLowers : ℕ → View → View
+withoutLowers d s = record { used = λ f. noLowers d (s .used f); place = s .place; device = s .device; top = s .top; low = λ e i. cond (eqb e d) 0 (s .low e i) }
+
 -- place v of c shows nothing, and if there was a page it is idle
 abbrev pub vacated : ℕ → ℕ → View → View
 vacated c v s = withPlace c v Nothing (withUses (noPage c v) s)
@@ -60,3 +68,21 @@ vacated c v s = withPlace c v Nothing (withUses (noPage c v) s)
 -- the places of c show nothing, and its pages are idle
 abbrev pub ended : ℕ → View → View
 ended c s = record { used = λ f. notOf c (s .used f); place = λ a b. cond (eqb a c) Nothing (s .place a b); device = s .device; top = s .top; low = s .low }
+
+-- place v of c shows no registers of d
+abbrev pub unregistered : ℕ → ℕ → ℕ → View → View
+unregistered c v d s = withPlace c v (noRegisters d (s .place c v)) s
+
+-- the registers of d are shown nowhere
+abbrev pub withoutRegisters : ℕ → View → View
+withoutRegisters d s = record { used = s .used; place = λ a b. noRegisters d (s .place a b); device = s .device; top = s .top; low = s .low }
+
+-- the places of c below k show no registers of d
+abbrev pub hiddenBelow : ℕ → ℕ → ℕ → View → View
+hiddenBelow c d k s =
+    record { used = s .used; place = λ a b. cond (eqb a c && ltb b k) (noRegisters d (s .place a b)) (s .place a b); device = s .device; top = s .top; low = s .low }
+
+-- the places of c below k show nothing, and the pages that stood there are idle
+abbrev pub endedBelow : ℕ → ℕ → View → View
+endedBelow c k s =
+    record { used = λ f. notBelow c k (s .used f); place = λ a b. cond (eqb a c && ltb b k) Nothing (s .place a b); device = s .device; top = s .top; low = s .low }

@@ -1,12 +1,15 @@
 -- Tests of uses, loans and devices, and what becomes of them.
-use mathlib.Core.Bool.{Bool, true, false, cond, _&&_}
+use mathlib.Core.Bool.{Bool, true, false, cond, _&&_, not}
 use Prim.Native.Nat.{ℕ}
-use lib.Dec.{eqb}
+use lib.Dec.{eqb, ltb}
 use Rattle.ledger.specs.declared.Loan.{Loan}
 use Rattle.ledger.specs.declared.Loan.the-variants.{Home, Lent, Leaving}
 use Rattle.ledger.specs.declared.Which.{Which}
+use Rattle.ledger.specs.declared.Which.the-variants.{Upper, Lower}
 use Rattle.ledger.specs.declared.Use.{Use}
 use Rattle.ledger.specs.declared.Use.the-variants.{House, TableOf, Idle, PageOf}
+use Rattle.ledger.specs.declared.Place.{Place}
+use Rattle.ledger.specs.declared.Place.the-variants.{Nothing, Page, Registers}
 use Rattle.ledger.specs.declared.Device.{Device}
 use Rattle.ledger.specs.declared.Device.the-variants.{Shut, Opened, Closing}
 
@@ -58,6 +61,10 @@ ownerIs c Shut = false
 ownerIs c (Opened w) = eqb c w
 ownerIs c (Closing w) = eqb c w
 
+-- a program other than c has it, open or closing
+abbrev pub heldByOther : ℕ → Device → Bool
+heldByOther c x = not (isShut x) && not (ownerIs c x)
+
 -- what is lent to d is leaving it
 abbrev pub leavingFrom : ℕ → Loan → Loan
 leavingFrom d Home = Home
@@ -70,11 +77,30 @@ homeFrom d Home = Home
 homeFrom d (Lent e p w) = cond (eqb d e) Home (Lent e p w)
 homeFrom d (Leaving e p w) = cond (eqb d e) Home (Leaving e p w)
 
+-- what a recall makes of a loan: it is home once the device was forgotten, and else leaving
+abbrev pub recalledLoan : (home : Bool) → Loan → Loan
+recalledLoan true l = Home
+recalledLoan false Home = Home
+recalledLoan false (Lent d p w) = Leaving d p w
+recalledLoan false (Leaving d p w) = Leaving d p w
+
+-- what a device's closing makes of a loan: it is home once the device was forgotten, and else leaving
+abbrev pub sweptLoan : (home : Bool) → ℕ → Loan → Loan
+sweptLoan true d l = homeFrom d l
+sweptLoan false d l = leavingFrom d l
+
 abbrev pub mapLoan : (Loan → Loan) → Use → Use
 mapLoan φ House = House
 mapLoan φ (TableOf d w) = TableOf d w
 mapLoan φ Idle = Idle
 mapLoan φ (PageOf c v l) = PageOf c v (φ l)
+
+-- the loan of the page of c at v is changed
+abbrev pub onPage : ℕ → ℕ → (Loan → Loan) → Use → Use
+onPage c v φ House = House
+onPage c v φ (TableOf d w) = TableOf d w
+onPage c v φ Idle = Idle
+onPage c v φ (PageOf a b l) = cond (eqb a c && eqb b v) (PageOf a b (φ l)) (PageOf a b l)
 
 -- the tables of d are idle
 abbrev pub noTable : ℕ → Use → Use
@@ -83,6 +109,22 @@ noTable d (TableOf e w) = cond (eqb d e) Idle (TableOf e w)
 noTable d Idle = Idle
 noTable d (PageOf c v l) = PageOf c v l
 
+-- the lower table of d at slot i is idle
+abbrev pub noLower : ℕ → ℕ → Use → Use
+noLower d i House = House
+noLower d i (TableOf e Upper) = TableOf e Upper
+noLower d i (TableOf e (Lower j)) = cond (eqb e d && eqb j i) Idle (TableOf e (Lower j))
+noLower d i Idle = Idle
+noLower d i (PageOf c v l) = PageOf c v l
+
+-- the lower tables of d are idle
+abbrev pub noLowers : ℕ → Use → Use
+noLowers d House = House
+noLowers d (TableOf e Upper) = TableOf e Upper
+noLowers d (TableOf e (Lower j)) = cond (eqb e d) Idle (TableOf e (Lower j))
+noLowers d Idle = Idle
+noLowers d (PageOf c v l) = PageOf c v l
+
 -- the page of c at v is idle
 abbrev pub noPage : ℕ → ℕ → Use → Use
 noPage c v House = House
@@ -90,9 +132,38 @@ noPage c v (TableOf d w) = TableOf d w
 noPage c v Idle = Idle
 noPage c v (PageOf a b l) = cond (eqb a c && eqb b v) Idle (PageOf a b l)
 
+-- the pages of c at places below k are idle
+abbrev pub notBelow : ℕ → ℕ → Use → Use
+notBelow c k House = House
+notBelow c k (TableOf d w) = TableOf d w
+notBelow c k Idle = Idle
+notBelow c k (PageOf a b l) = cond (eqb a c && ltb b k) Idle (PageOf a b l)
+
 -- the pages of c are idle
 abbrev pub notOf : ℕ → Use → Use
 notOf c House = House
 notOf c (TableOf d w) = TableOf d w
 notOf c Idle = Idle
 notOf c (PageOf a b l) = cond (eqb c a) Idle (PageOf a b l)
+
+abbrev pub showsAny : Place → Bool
+showsAny Nothing = false
+showsAny (Page f) = true
+showsAny (Registers d) = true
+
+abbrev pub showsRegisters : ℕ → Place → Bool
+showsRegisters d Nothing = false
+showsRegisters d (Page f) = false
+showsRegisters d (Registers e) = eqb e d
+
+-- the registers of d are not shown
+abbrev pub noRegisters : ℕ → Place → Place
+noRegisters d Nothing = Nothing
+noRegisters d (Page f) = Page f
+noRegisters d (Registers e) = cond (eqb e d) Nothing (Registers e)
+
+-- the loan of the page that a place shows
+abbrev pub loanShown : (ℕ → Use) → Place → Loan
+loanShown used Nothing = Home
+loanShown used (Page f) = loanIn (used f)
+loanShown used (Registers d) = Home

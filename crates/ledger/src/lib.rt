@@ -1,13 +1,18 @@
 // The room: who has which frame, place, table and device, in words that are lent. It knows nothing of the machine.
+pub mod closing;
 pub mod devices;
 pub mod frames;
 pub mod layout;
+pub mod loans;
 pub mod pages;
 pub mod places;
 pub mod record;
+pub mod registers;
 pub mod searches;
 pub mod setup;
 pub mod slots;
+pub mod sweeps;
+pub mod tables;
 
 // A page that is somebody's is with its owner, lent to a device, or on its way back from one.
 #[derive(Clone, Copy)]
@@ -56,3 +61,6 @@ pub enum Device {
     Opened(u32),
     Closing(u32),
 }
+
+#[cfg(test)]
+mod tests;

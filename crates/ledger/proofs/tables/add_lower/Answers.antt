@@ -1,0 +1,9 @@
+use native.Mathlib.Omega.{arith}
+use Rattle.ledger.proofs.Operations.{lower-made}
+use Rattle.ledger.proofs.tables.add_lower.Needs as need
+
+pub returns : need.returns
+returns c =
+    let made = lower-made (c .args .frames) (c .args .room .now) (c .set-low .last .room) (c .pre .consistent) (omega arith) (c .set-use .last .room) (c .args .d) (c .args .slot) (c .args .f) (c .pre .frame .0) (c .pre .frame .1)
+    (c .pre .device .1 .1 .0) (c .pre .device .1 .1 .1) (c .set-use .ensures (c .args .frames) (c .pre .frame .0)) (c .set-low .ensures (c .args .frames)) in
+    record { view = made .0; consistent = made .1 }
