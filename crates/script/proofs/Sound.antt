@@ -13,7 +13,7 @@ use Rattle.std.specs.declared.option.Option.{Option}
 use Rattle.std.specs.declared.option.Option.the-variants.{Some, None}
 use Rattle.script.specs.Decimal.{indexOf, exactOf}
 use Rattle.script.specs.Language.{Part, text, index, exact, Written, access, requestParts, partsOf}
-use Rattle.script.specs.Parser.{modeOf, giveOf, regsOf, lendOf, requestOf, loadOf, storeOf, programOf, readOf, writeOf, wayOf, accessOf, keepOf, keptWay, keptOf, machineOf, headOf, sentenceOf}
+use Rattle.script.specs.Parser.{modeOf, giveOf, regsOf, lendOf, simpleOf, requestOf, loadOf, storeOf, programOf, readOf, writeOf, wayOf, accessOf, keepOf, keptWay, keptOf, machineOf, headOf, sentenceOf}
 use Rattle.script.specs.Parts.{andThen, first, later, atEnd, lastOf}
 use Rattle.script.specs.declared.forms.Line.{Line}
 use Rattle.script.specs.declared.forms.Line.the-variants.{Call, Store, Load, Read, Write, Keep, Kept, Refuse, Seed, New}
@@ -91,12 +91,26 @@ mode-only m (w ∷ ws) e =
 abbrev Asks : List ℕ → Words → Request → Type 0
 Asks verb ws q = Written (requestParts q) (verb ∷ ws)
 
-asks-one : (f : ℕ → Request) (t verb : List ℕ) (ws : Words) (q : Request) → ((n : ℕ) → requestParts (f n) ≡ text t ∷ index n ∷ []) → verb ≡ t → mapped f (lastOf indexOf ws) ≡ Some q → Asks verb ws q
-asks-one f t verb ws q parts v e =
-    let m = made (lastOf indexOf ws) f q e in
-    let words : Written (text t ∷ index (m .0) ∷ []) (verb ∷ ws) = (v, index-only (m .0) ws (m .1)) in
-    subst (λ (r : Request). Written (requestParts r) (verb ∷ ws)) (m .2)
-      (subst (λ (ps : List Part). Written ps (verb ∷ ws)) (sym (parts (m .0))) words)
+asks-one : (f : ℕ → Request) (t verb : List ℕ) (n : ℕ) (ws : Words) (q : Request) → requestParts (f n) ≡ text t ∷ index n ∷ [] → Written (index n ∷ []) ws → (verb ≡ t) × (Some (f n) ≡ Some q) → Asks verb ws q
+asks-one f t verb n ws q parts h e =
+    let same : f n ≡ q = let k = e .1 in cc in
+    let words : Written (text t ∷ index n ∷ []) (verb ∷ ws) = (e .0, h) in
+    subst (Asks verb ws) same (subst (λ (ps : List Part). Written ps (verb ∷ ws)) (sym parts) words)
+
+simple-sound : (verb : List ℕ) (n : ℕ) (ws : Words) (q : Request) → Written (index n ∷ []) ws → simpleOf verb n ≡ Some q → Asks verb ws q
+simple-sound verb n ws q h e =
+    ⊎-elim (asks-one (λ v. Get v) (codes "get") verb n ws q refl h) (λ e1.
+    ⊎-elim (asks-one (λ v. Free v) (codes "free") verb n ws q refl h) (λ e2.
+    ⊎-elim (asks-one (λ d. Open d) (codes "open") verb n ws q refl h) (λ e3.
+    ⊎-elim (asks-one (λ d. Close d) (codes "close") verb n ws q refl h) (λ e4.
+    ⊎-elim (asks-one (λ v. Recall v) (codes "recall") verb n ws q refl h) (λ e5.
+    ⊎-elim (asks-one (λ w. End w) (codes "end") verb n ws q refl h) (λ e6. absurd (none-some q e6))
+      (by-text verb (codes "end") _ _ q e5))
+      (by-text verb (codes "recall") _ _ q e4))
+      (by-text verb (codes "close") _ _ q e3))
+      (by-text verb (codes "open") _ _ q e2))
+      (by-text verb (codes "free") _ _ q e1))
+      (by-text verb (codes "get") _ _ q e)
 
 asks-give : (verb : List ℕ) (ws : Words) (q : Request) → verb ≡ codes "give" → giveOf ws ≡ Some q → Asks verb ws q
 asks-give verb ws q v e =
@@ -125,24 +139,14 @@ asks-lend verb ws q v e =
 
 request-sound : (verb : List ℕ) (ws : Words) (q : Request) → requestOf verb ws ≡ Some q → Asks verb ws q
 request-sound verb ws q e =
-    ⊎-elim (λ h. asks-one (λ v. Get v) (codes "get") verb ws q (λ n. refl) (h .0) (h .1)) (λ e1.
-    ⊎-elim (λ h. asks-one (λ v. Free v) (codes "free") verb ws q (λ n. refl) (h .0) (h .1)) (λ e2.
-    ⊎-elim (λ h. asks-one (λ d. Open d) (codes "open") verb ws q (λ n. refl) (h .0) (h .1)) (λ e3.
-    ⊎-elim (λ h. asks-one (λ d. Close d) (codes "close") verb ws q (λ n. refl) (h .0) (h .1)) (λ e4.
-    ⊎-elim (λ h. asks-one (λ v. Recall v) (codes "recall") verb ws q (λ n. refl) (h .0) (h .1)) (λ e5.
-    ⊎-elim (λ h. asks-one (λ w. End w) (codes "end") verb ws q (λ n. refl) (h .0) (h .1)) (λ e6.
-    ⊎-elim (λ h. asks-give verb ws q (h .0) (h .1)) (λ e7.
-    ⊎-elim (λ h. asks-regs verb ws q (h .0) (h .1)) (λ e8.
-    ⊎-elim (λ h. asks-lend verb ws q (h .0) (h .1)) (λ e9. absurd (none-some q e9))
-      (by-text verb (codes "lend") _ _ q e8))
-      (by-text verb (codes "regs") _ _ q e7))
-      (by-text verb (codes "give") _ _ q e6))
-      (by-text verb (codes "end") _ _ q e5))
-      (by-text verb (codes "recall") _ _ q e4))
-      (by-text verb (codes "close") _ _ q e3))
-      (by-text verb (codes "open") _ _ q e2))
-      (by-text verb (codes "free") _ _ q e1))
-      (by-text verb (codes "get") _ _ q e)
+    ⊎-elim (λ h. asks-give verb ws q (h .0) (h .1)) (λ e1.
+    ⊎-elim (λ h. asks-regs verb ws q (h .0) (h .1)) (λ e2.
+    ⊎-elim (λ h. asks-lend verb ws q (h .0) (h .1)) (λ e3.
+      let a = bound (lastOf indexOf ws) (simpleOf verb) q e3 in
+      simple-sound verb (a .0) ws q (index-only (a .0) ws (a .1)) (a .2))
+      (by-text verb (codes "lend") _ _ q e2))
+      (by-text verb (codes "regs") _ _ q e1))
+      (by-text verb (codes "give") _ _ q e)
 
 -- A program's words, its number first; the number is read already.
 abbrev Says : ℕ → Words → Line → Type 0

@@ -3,7 +3,7 @@ ghost use mathlib.Core.Path.{_≡_};
 ghost use Rattle.std.specs.declared.option.Option.the-variants.{Some};
 ghost use Rattle.script.specs.Language.{Writes};
 ghost use Rattle.script.specs.Left.{left};
-ghost use Rattle.script.specs.Parser.{sentenceOf, programOf, machineOf, loadOf, storeOf, accessOf, readOf, writeOf, keepOf, keptOf, requestOf, giveOf, regsOf, lendOf, modeOf};
+ghost use Rattle.script.specs.Parser.{sentenceOf, programOf, machineOf, loadOf, storeOf, accessOf, readOf, writeOf, keepOf, keptOf, requestOf, simpleOf, giveOf, regsOf, lendOf, modeOf};
 use crate::forms::Line;
 use crate::forms::Request;
 use crate::numbers::read_number;
@@ -148,24 +148,6 @@ fn kept(words: &mut Words) -> Option<Line>
 fn request(verb: &[u8], words: &mut Words) -> Option<Request>
     ensures { λ r. ⌜ r ≡ requestOf (now (verb .entry)) (left (now (words .entry))) ⌝ }
 {
-    if is(verb, b"get") {
-        return Some(Request::Get { v: words.last_index()? });
-    }
-    if is(verb, b"free") {
-        return Some(Request::Free { v: words.last_index()? });
-    }
-    if is(verb, b"open") {
-        return Some(Request::Open { d: words.last_index()? });
-    }
-    if is(verb, b"close") {
-        return Some(Request::Close { d: words.last_index()? });
-    }
-    if is(verb, b"recall") {
-        return Some(Request::Recall { v: words.last_index()? });
-    }
-    if is(verb, b"end") {
-        return Some(Request::End { who: words.last_index()? });
-    }
     if is(verb, b"give") {
         return give(words);
     }
@@ -174,6 +156,32 @@ fn request(verb: &[u8], words: &mut Words) -> Option<Request>
     }
     if is(verb, b"lend") {
         return lend(words);
+    }
+    let n = words.last_index()?;
+    simple(verb, n)
+}
+
+// The calls of one number.
+fn simple(verb: &[u8], n: u32) -> Option<Request>
+    ensures { λ r. ⌜ r ≡ simpleOf (now (verb .entry)) n ⌝ }
+{
+    if is(verb, b"get") {
+        return Some(Request::Get { v: n });
+    }
+    if is(verb, b"free") {
+        return Some(Request::Free { v: n });
+    }
+    if is(verb, b"open") {
+        return Some(Request::Open { d: n });
+    }
+    if is(verb, b"close") {
+        return Some(Request::Close { d: n });
+    }
+    if is(verb, b"recall") {
+        return Some(Request::Recall { v: n });
+    }
+    if is(verb, b"end") {
+        return Some(Request::End { who: n });
     }
     None
 }
