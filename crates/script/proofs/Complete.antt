@@ -140,16 +140,16 @@ pub complete : (l : Line) (ws : Words) → Written (partsOf l) ws → sentenceOf
 complete (Call who q) ws h = by-program who (Call who q) (requestParts q) ws h (call-read who q (later ws))
 complete (Store who v word x) ws h =
     by-program who (Store who v word x) (text (codes "store") ∷ index v ∷ index word ∷ exact x ∷ []) ws h
-      (λ k. by-verb who (Store who v word x) (codes "store") (index v ∷ index word ∷ exact x ∷ []) (later ws) k (store-read who v word x (later (later ws))))
+    (λ k. by-verb who (Store who v word x) (codes "store") (index v ∷ index word ∷ exact x ∷ []) (later ws) k (store-read who v word x (later (later ws))))
 complete (Load who v word) ws h =
     by-program who (Load who v word) (text (codes "load") ∷ index v ∷ index word ∷ []) ws h
-      (λ k. by-verb who (Load who v word) (codes "load") (index v ∷ index word ∷ []) (later ws) k (load-read who v word (later (later ws))))
+    (λ k. by-verb who (Load who v word) (codes "load") (index v ∷ index word ∷ []) (later ws) k (load-read who v word (later (later ws))))
 complete (Read d p word) ws h =
     by-text (Read d p word) (codes "dev") (index d ∷ text (codes "read") ∷ index p ∷ index word ∷ []) ws h
-      (λ k. access-read (Read d p word) d (codes "read") (index p ∷ index word ∷ []) (later ws) k (read-read d p word (later (later (later ws)))))
+    (λ k. access-read (Read d p word) d (codes "read") (index p ∷ index word ∷ []) (later ws) k (read-read d p word (later (later (later ws)))))
 complete (Write d p word x) ws h =
     by-text (Write d p word x) (codes "dev") (index d ∷ text (codes "write") ∷ index p ∷ index word ∷ exact x ∷ []) ws h
-      (λ k. access-read (Write d p word x) d (codes "write") (index p ∷ index word ∷ exact x ∷ []) (later ws) k (write-read d p word x (later (later (later ws)))))
+    (λ k. access-read (Write d p word x) d (codes "write") (index p ∷ index word ∷ exact x ∷ []) (later ws) k (write-read d p word x (later (later (later ws)))))
 complete (Keep d p) ws h = by-text (Keep d p) (codes "keep") (index d ∷ index p ∷ []) ws h (keep-read d p (later ws))
 complete (Kept d p word x) ws h =
     by-text (Kept d p word x) (codes "kept") (index d ∷ index p ∷ text (codes "write") ∷ index word ∷ exact x ∷ []) ws h (kept-read d p word x (later ws))

@@ -77,8 +77,8 @@ exact-only n (w ∷ ws) e =
 mode-text : (w : List ℕ) (m : Bool) → modeOf w ≡ Some m → w ≡ access m
 mode-text w m e =
     ⊎-elim (λ h. let same : true ≡ m = cc in h .0 ∙ ap access same)
-      (λ f. ⊎-elim (λ h. let same : false ≡ m = cc in h .0 ∙ ap access same) (λ n. absurd (none-some m n)) (by-text w (codes "r") (Some false) None m f))
-      (by-text w (codes "w") (Some true) (cond (sameBytes w (codes "r")) (Some false) None) m e)
+    (λ f. ⊎-elim (λ h. let same : false ≡ m = cc in h .0 ∙ ap access same) (λ n. absurd (none-some m n)) (by-text w (codes "r") (Some false) None m f))
+    (by-text w (codes "w") (Some true) (cond (sameBytes w (codes "r")) (Some false) None) m e)
 
 mode-only : (m : Bool) (ws : Words) → lastOf modeOf ws ≡ Some m → Written (text (access m) ∷ []) ws
 mode-only m [] e = absurd (none-some m e)
@@ -105,12 +105,12 @@ simple-sound verb n ws q h e =
     ⊎-elim (asks-one (λ d. Close d) (codes "close") verb n ws q refl h) (λ e4.
     ⊎-elim (asks-one (λ v. Recall v) (codes "recall") verb n ws q refl h) (λ e5.
     ⊎-elim (asks-one (λ w. End w) (codes "end") verb n ws q refl h) (λ e6. absurd (none-some q e6))
-      (by-text verb (codes "end") _ _ q e5))
-      (by-text verb (codes "recall") _ _ q e4))
-      (by-text verb (codes "close") _ _ q e3))
-      (by-text verb (codes "open") _ _ q e2))
-      (by-text verb (codes "free") _ _ q e1))
-      (by-text verb (codes "get") _ _ q e)
+    (by-text verb (codes "end") _ _ q e5))
+    (by-text verb (codes "recall") _ _ q e4))
+    (by-text verb (codes "close") _ _ q e3))
+    (by-text verb (codes "open") _ _ q e2))
+    (by-text verb (codes "free") _ _ q e1))
+    (by-text verb (codes "get") _ _ q e)
 
 asks-give : (verb : List ℕ) (ws : Words) (q : Request) → verb ≡ codes "give" → giveOf ws ≡ Some q → Asks verb ws q
 asks-give verb ws q v e =
@@ -118,7 +118,7 @@ asks-give verb ws q v e =
     let b = bound (first indexOf (later ws)) _ q (a .2) in
     let m = made (lastOf indexOf (later (later ws))) (λ at. Give (a .0) (b .0) at) q (b .2) in
     subst (Asks verb ws) (m .2)
-      (v, index-first (a .0) (index (b .0) ∷ index (m .0) ∷ []) ws (a .1) (index-first (b .0) (index (m .0) ∷ []) (later ws) (b .1) (index-only (m .0) (later (later ws)) (m .1))))
+    (v, index-first (a .0) (index (b .0) ∷ index (m .0) ∷ []) ws (a .1) (index-first (b .0) (index (m .0) ∷ []) (later ws) (b .1) (index-only (m .0) (later (later ws)) (m .1))))
 
 asks-regs : (verb : List ℕ) (ws : Words) (q : Request) → verb ≡ codes "regs" → regsOf ws ≡ Some q → Asks verb ws q
 asks-regs verb ws q v e =
@@ -132,21 +132,23 @@ asks-lend verb ws q v e =
     let b = bound (first indexOf (later ws)) _ q (a .2) in
     let f = bound (first indexOf (later (later ws))) _ q (b .2) in
     let m = made (lastOf modeOf (later (later (later ws)))) (λ m. Lend (a .0) (b .0) (f .0) m) q (f .2) in
-    subst (Asks verb ws) (m .2)
-      (v, index-first (a .0) (index (b .0) ∷ index (f .0) ∷ text (access (m .0)) ∷ []) ws (a .1)
-        (index-first (b .0) (index (f .0) ∷ text (access (m .0)) ∷ []) (later ws) (b .1)
-          (index-first (f .0) (text (access (m .0)) ∷ []) (later (later ws)) (f .1) (mode-only (m .0) (later (later (later ws))) (m .1)))))
+    subst (Asks verb ws) (m .2) (
+      v,
+      index-first (a .0) (index (b .0) ∷ index (f .0) ∷ text (access (m .0)) ∷ []) ws (a .1)
+          (index-first (b .0) (index (f .0) ∷ text (access (m .0)) ∷ []) (later ws) (b .1)
+          (index-first (f .0) (text (access (m .0)) ∷ []) (later (later ws)) (f .1) (mode-only (m .0) (later (later (later ws))) (m .1)))),
+    )
 
 request-sound : (verb : List ℕ) (ws : Words) (q : Request) → requestOf verb ws ≡ Some q → Asks verb ws q
 request-sound verb ws q e =
     ⊎-elim (λ h. asks-give verb ws q (h .0) (h .1)) (λ e1.
     ⊎-elim (λ h. asks-regs verb ws q (h .0) (h .1)) (λ e2.
     ⊎-elim (λ h. asks-lend verb ws q (h .0) (h .1)) (λ e3.
-      let a = bound (lastOf indexOf ws) (simpleOf verb) q e3 in
-      simple-sound verb (a .0) ws q (index-only (a .0) ws (a .1)) (a .2))
-      (by-text verb (codes "lend") _ _ q e2))
-      (by-text verb (codes "regs") _ _ q e1))
-      (by-text verb (codes "give") _ _ q e)
+    let a = bound (lastOf indexOf ws) (simpleOf verb) q e3 in
+    simple-sound verb (a .0) ws q (index-only (a .0) ws (a .1)) (a .2))
+    (by-text verb (codes "lend") _ _ q e2))
+    (by-text verb (codes "regs") _ _ q e1))
+    (by-text verb (codes "give") _ _ q e)
 
 -- A program's words, its number first; the number is read already.
 abbrev Says : ℕ → Words → Line → Type 0
@@ -157,7 +159,7 @@ program-load who verb ws l v e n is =
     let a = bound (first indexOf ws) _ l e in
     let m = made (lastOf indexOf (later ws)) (λ word. Load who (a .0) word) l (a .2) in
     subst (λ (k : Line). Written (partsOf k) (n ∷ verb ∷ ws)) (m .2)
-      (is, (v, index-first (a .0) (index (m .0) ∷ []) ws (a .1) (index-only (m .0) (later ws) (m .1))))
+    (is, (v, index-first (a .0) (index (m .0) ∷ []) ws (a .1) (index-only (m .0) (later ws) (m .1))))
 
 program-store : (who : ℕ) (verb : List ℕ) (ws : Words) (l : Line) → verb ≡ codes "store" → storeOf who ws ≡ Some l → Says who (verb ∷ ws) l
 program-store who verb ws l v e n is =
@@ -165,7 +167,7 @@ program-store who verb ws l v e n is =
     let b = bound (first indexOf (later ws)) _ l (a .2) in
     let m = made (lastOf exactOf (later (later ws))) (λ x. Store who (a .0) (b .0) x) l (b .2) in
     subst (λ (k : Line). Written (partsOf k) (n ∷ verb ∷ ws)) (m .2)
-      (is, (v, index-first (a .0) (index (b .0) ∷ exact (m .0) ∷ []) ws (a .1) (index-first (b .0) (exact (m .0) ∷ []) (later ws) (b .1) (exact-only (m .0) (later (later ws)) (m .1)))))
+    (is, (v, index-first (a .0) (index (b .0) ∷ exact (m .0) ∷ []) ws (a .1) (index-first (b .0) (exact (m .0) ∷ []) (later ws) (b .1) (exact-only (m .0) (later (later ws)) (m .1)))))
 
 program-call : (who : ℕ) (verb : List ℕ) (ws : Words) (l : Line) → mapped (λ r. Call who r) (requestOf verb ws) ≡ Some l → Says who (verb ∷ ws) l
 program-call who verb ws l e n is =
@@ -177,8 +179,8 @@ program-sound who [] l e = absurd (none-some l e)
 program-sound who (verb ∷ ws) l e =
     ⊎-elim (λ h. program-load who verb ws l (h .0) (h .1)) (λ e1.
     ⊎-elim (λ h. program-store who verb ws l (h .0) (h .1)) (λ e2. program-call who verb ws l e2)
-      (by-text verb (codes "store") _ _ l e1))
-      (by-text verb (codes "load") _ _ l e)
+    (by-text verb (codes "store") _ _ l e1))
+    (by-text verb (codes "load") _ _ l e)
 
 -- The words of the other lines.
 abbrev Tells : Words → Line → Type 0
@@ -188,22 +190,22 @@ way-sound : (dev : List ℕ) (d : ℕ) (ws vs : Words) (l : Line) → dev ≡ co
 way-sound dev d [] vs l h i so e = absurd (none-some l e)
 way-sound dev d (way ∷ ws) vs l h i so e =
     ⊎-elim (λ k.
-      let a = bound (first indexOf ws) _ l (k .1) in
-      let m = made (lastOf indexOf (later ws)) (λ word. Read d (a .0) word) l (a .2) in
-      let words : Written (text (codes "read") ∷ index (a .0) ∷ index (m .0) ∷ []) (way ∷ ws) = (k .0, index-first (a .0) (index (m .0) ∷ []) ws (a .1) (index-only (m .0) (later ws) (m .1))) in
-      subst (Tells (dev ∷ vs)) (m .2)
-        (h, index-first d (text (codes "read") ∷ index (a .0) ∷ index (m .0) ∷ []) vs i (subst (Written (text (codes "read") ∷ index (a .0) ∷ index (m .0) ∷ [])) so words)))
+    let a = bound (first indexOf ws) _ l (k .1) in
+    let m = made (lastOf indexOf (later ws)) (λ word. Read d (a .0) word) l (a .2) in
+    let words : Written (text (codes "read") ∷ index (a .0) ∷ index (m .0) ∷ []) (way ∷ ws) = (k .0, index-first (a .0) (index (m .0) ∷ []) ws (a .1) (index-only (m .0) (later ws) (m .1))) in
+    subst (Tells (dev ∷ vs)) (m .2)
+    (h, index-first d (text (codes "read") ∷ index (a .0) ∷ index (m .0) ∷ []) vs i (subst (Written (text (codes "read") ∷ index (a .0) ∷ index (m .0) ∷ [])) so words)))
     (λ e1. ⊎-elim (λ k.
-      let a = bound (first indexOf ws) _ l (k .1) in
-      let b = bound (first indexOf (later ws)) _ l (a .2) in
-      let m = made (lastOf exactOf (later (later ws))) (λ x. Write d (a .0) (b .0) x) l (b .2) in
-      let words : Written (text (codes "write") ∷ index (a .0) ∷ index (b .0) ∷ exact (m .0) ∷ []) (way ∷ ws) =
-        (k .0, index-first (a .0) (index (b .0) ∷ exact (m .0) ∷ []) ws (a .1) (index-first (b .0) (exact (m .0) ∷ []) (later ws) (b .1) (exact-only (m .0) (later (later ws)) (m .1)))) in
-      subst (Tells (dev ∷ vs)) (m .2)
-        (h, index-first d (text (codes "write") ∷ index (a .0) ∷ index (b .0) ∷ exact (m .0) ∷ []) vs i (subst (Written (text (codes "write") ∷ index (a .0) ∷ index (b .0) ∷ exact (m .0) ∷ [])) so words)))
+    let a = bound (first indexOf ws) _ l (k .1) in
+    let b = bound (first indexOf (later ws)) _ l (a .2) in
+    let m = made (lastOf exactOf (later (later ws))) (λ x. Write d (a .0) (b .0) x) l (b .2) in
+    let words : Written (text (codes "write") ∷ index (a .0) ∷ index (b .0) ∷ exact (m .0) ∷ []) (way ∷ ws) =
+    (k .0, index-first (a .0) (index (b .0) ∷ exact (m .0) ∷ []) ws (a .1) (index-first (b .0) (exact (m .0) ∷ []) (later ws) (b .1) (exact-only (m .0) (later (later ws)) (m .1)))) in
+    subst (Tells (dev ∷ vs)) (m .2)
+    (h, index-first d (text (codes "write") ∷ index (a .0) ∷ index (b .0) ∷ exact (m .0) ∷ []) vs i (subst (Written (text (codes "write") ∷ index (a .0) ∷ index (b .0) ∷ exact (m .0) ∷ [])) so words)))
     (λ e2. absurd (none-some l e2))
-      (by-text way (codes "write") _ _ l e1))
-      (by-text way (codes "read") _ _ l e)
+    (by-text way (codes "write") _ _ l e1))
+    (by-text way (codes "read") _ _ l e)
 
 dev-sound : (dev : List ℕ) (ws : Words) (l : Line) → dev ≡ codes "dev" → accessOf ws ≡ Some l → Tells (dev ∷ ws) l
 dev-sound dev ws l h e =
@@ -227,20 +229,22 @@ rest-sound : (d p : ℕ) (ws : Words) (l : Line) → keptWay d p ws ≡ Some l �
 rest-sound d p [] l e = absurd (none-some l e)
 rest-sound d p (way ∷ ws) l e =
     ⊎-elim (λ k.
-      let a = bound (first indexOf ws) _ l (k .1) in
-      let m = made (lastOf exactOf (later ws)) (λ x. Kept d p (a .0) x) l (a .2) in
-      record { word = a .0; x = m .0; same = m .2; words = (k .0, index-first (a .0) (exact (m .0) ∷ []) ws (a .1) (exact-only (m .0) (later ws) (m .1))) })
+    let a = bound (first indexOf ws) _ l (k .1) in
+    let m = made (lastOf exactOf (later ws)) (λ x. Kept d p (a .0) x) l (a .2) in
+    record { word = a .0; x = m .0; same = m .2; words = (k .0, index-first (a .0) (exact (m .0) ∷ []) ws (a .1) (exact-only (m .0) (later ws) (m .1))) })
     (λ e1. absurd (none-some l e1))
-      (by-text way (codes "write") _ _ l e)
+    (by-text way (codes "write") _ _ l e)
 
 kept-sound : (kept : List ℕ) (ws : Words) (l : Line) → kept ≡ codes "kept" → keptOf ws ≡ Some l → Tells (kept ∷ ws) l
 kept-sound kept ws l h e =
     let a = bound (first indexOf ws) _ l e in
     let b = bound (first indexOf (later ws)) _ l (a .2) in
     let r = rest-sound (a .0) (b .0) (later (later ws)) l (b .2) in
-    subst (Tells (kept ∷ ws)) (r .same)
-      (h, index-first (a .0) (index (b .0) ∷ text (codes "write") ∷ index (r .word) ∷ exact (r .x) ∷ []) ws (a .1)
-        (index-first (b .0) (text (codes "write") ∷ index (r .word) ∷ exact (r .x) ∷ []) (later ws) (b .1) (r .words)))
+    subst (Tells (kept ∷ ws)) (r .same) (
+      h,
+      index-first (a .0) (index (b .0) ∷ text (codes "write") ∷ index (r .word) ∷ exact (r .x) ∷ []) ws (a .1)
+          (index-first (b .0) (text (codes "write") ∷ index (r .word) ∷ exact (r .x) ∷ []) (later ws) (b .1) (r .words)),
+    )
 
 tells-one : (f : ℕ → Line) (t head : List ℕ) (ws : Words) (l : Line) → ((n : ℕ) → partsOf (f n) ≡ text t ∷ exact n ∷ []) → head ≡ t → mapped f (lastOf exactOf ws) ≡ Some l → Tells (head ∷ ws) l
 tells-one f t head ws l parts h e =
@@ -262,12 +266,12 @@ machine-sound head ws l e =
     ⊎-elim (λ h. tells-one (λ n. Refuse n) (codes "no") head ws l (λ n. refl) (h .0) (h .1)) (λ e4.
     ⊎-elim (λ h. tells-one (λ s. Seed s) (codes "seed") head ws l (λ n. refl) (h .0) (h .1)) (λ e5.
     ⊎-elim (λ h. new-sound head ws l (h .0) (h .1)) (λ e6. absurd (none-some l e6))
-      (by-text head (codes "new") _ _ l e5))
-      (by-text head (codes "seed") _ _ l e4))
-      (by-text head (codes "no") _ _ l e3))
-      (by-text head (codes "kept") _ _ l e2))
-      (by-text head (codes "keep") _ _ l e1))
-      (by-text head (codes "dev") _ _ l e)
+    (by-text head (codes "new") _ _ l e5))
+    (by-text head (codes "seed") _ _ l e4))
+    (by-text head (codes "no") _ _ l e3))
+    (by-text head (codes "kept") _ _ l e2))
+    (by-text head (codes "keep") _ _ l e1))
+    (by-text head (codes "dev") _ _ l e)
 
 head-sound : (o : Option ℕ) (ws : Words) (l : Line) → first indexOf ws ≡ o → headOf o ws ≡ Some l → Written (partsOf l) ws
 head-sound None [] l i e = absurd (none-some l e)

@@ -80,10 +80,14 @@ fn machine_line(head: &[u8], words: &mut Words) -> Option<Line>
         return kept(words);
     }
     if is(head, b"no") {
-        return Some(Line::Refuse { n: words.last_exact()? });
+        return Some(Line::Refuse {
+            n: words.last_exact()?,
+        });
     }
     if is(head, b"seed") {
-        return Some(Line::Seed { s: words.last_exact()? });
+        return Some(Line::Seed {
+            s: words.last_exact()?,
+        });
     }
     if is(head, b"new") && words.at_end() {
         return Some(Line::New);
@@ -210,7 +214,11 @@ fn lend(words: &mut Words) -> Option<Request>
     let d = words.index()?;
     let p = words.index()?;
     let writes = mode(words.next()?)?;
-    if words.at_end() { Some(Request::Lend { v, d, p, writes }) } else { None }
+    if words.at_end() {
+        Some(Request::Lend { v, d, p, writes })
+    } else {
+        None
+    }
 }
 
 // Whether a page is lent to be written.
