@@ -22,12 +22,12 @@ fn main(rt: LibcRuntime) -> io::Result<()> {
 
 fn play<R: Read, W: Write>(lines: &mut Lines<R>, out: &mut W) -> io::Result<()> {
     for _ in 0..u64::MAX {
-        if !lines.advance()? {
+        let Some(number) = lines.advance()? else {
             break;
-        }
+        };
         let said = match read_line(lines.line()) {
             Some(line) => answer(line),
-            None => Some(Outcome::BadLine(lines.number())),
+            None => Some(Outcome::BadLine(number)),
         };
         if let Some(outcome) = said {
             print(outcome, out)?;

@@ -4,8 +4,31 @@ use crate::forms::LinePartialEq;
 use crate::*;
 use std::test::*;
 
-const SAMPLES: &[u8] =
-    b"2 get 5\n2 free 5\n2 give 5 3 6\n2 open 2\n2 close 2\n2 regs 2 9\n2 lend 5 2 700 w\n2 lend 5 2 700 r\n2 recall 5\n0 end 2\n2 store 5 0 77\n2 load 5 0\ndev 1 read 700 0\ndev 1 write 700 0 88\nkeep 1 700\nkept 1 700 write 0 88\nno 2\nseed 9\nnew\n007 get 0000000000000000000000000000000000005\n4294967294 get 4294967295\n4294967296 get 99999999999999999999999999\nno 18446744073709551615\n1 store 1 1 00018446744073709551615\n";
+const SAMPLES: &[u8] = b"\
+2 get 5\n\
+2 free 5\n\
+2 give 5 3 6\n\
+2 open 2\n\
+2 close 2\n\
+2 regs 2 9\n\
+2 lend 5 2 700 w\n\
+2 lend 5 2 700 r\n\
+2 recall 5\n\
+0 end 2\n\
+2 store 5 0 77\n\
+2 load 5 0\n\
+dev 1 read 700 0\n\
+dev 1 write 700 0 88\n\
+keep 1 700\n\
+kept 1 700 write 0 88\n\
+no 2\n\
+seed 9\n\
+new\n\
+007 get 0000000000000000000000000000000000005\n\
+4294967294 get 4294967295\n\
+4294967296 get 99999999999999999999999999\n\
+no 18446744073709551615\n\
+1 store 1 1 00018446744073709551615\n";
 
 #[test]
 fn good_lines() -> Result<(), Fail> {
@@ -83,28 +106,75 @@ fn good_lines() -> Result<(), Fail> {
         },
     ];
     for line in expected {
-        check(lines.advance()?)?;
+        check(lines.advance()?.is_some())?;
         check_eq(read_line(lines.line()), Some(line))?;
     }
-    check(!lines.advance()?)
+    check_eq(lines.advance()?, None)
 }
 
 fn call(who: u32, request: Request) -> Line {
     Line::Call { who, request }
 }
 
-const BAD: &[u8] =
-    b"\n \n2\n2 \n2 get\n2 get \n2 get 5 \n 2 get 5\n2  get 5\n2 get 5 5\n2 get x\n2 get 5x\n2 get -5\n2 get +5\n2 GET 5\n2 gets 5\n2\tget 5\n2 get 5\r\nget 5\ntwo get 5\n2 give 5 3\n2 lend 5 2 700\n2 lend 5 2 700 x\n2 lend 5 2 700 w w\n2 store 5 0\n2 store 5 0 18446744073709551616\n2 load 5\n2 load 5 0 0\ndev 1\ndev 1 700 0\ndev 1 read 700\ndev 1 read 700 0 88\ndev 1 write 700 0\ndev 1 Write 700 0 88\nkeep 1\nkeep 1 700 0\nkept 1 700 read 0 88\nkept 1 700 write 0\nkept 1 write 700 0 88\nno\nno 18446744073709551616\nno 2 2\nseed\nseed x\nnew 1\nnew \nnews\n# a note\n2 get 5\0";
+const BAD: &[u8] = b"\
+\n\
+\x20\n\
+2\n\
+2 \n\
+2 get\n\
+2 get \n\
+2 get 5 \n\
+\x202 get 5\n\
+2  get 5\n\
+2 get 5 5\n\
+2 get x\n\
+2 get 5x\n\
+2 get -5\n\
+2 get +5\n\
+2 GET 5\n\
+2 gets 5\n\
+2\tget 5\n\
+2 get 5\r\n\
+get 5\n\
+two get 5\n\
+2 give 5 3\n\
+2 lend 5 2 700\n\
+2 lend 5 2 700 x\n\
+2 lend 5 2 700 w w\n\
+2 store 5 0\n\
+2 store 5 0 18446744073709551616\n\
+2 load 5\n\
+2 load 5 0 0\n\
+dev 1\n\
+dev 1 700 0\n\
+dev 1 read 700\n\
+dev 1 read 700 0 88\n\
+dev 1 write 700 0\n\
+dev 1 Write 700 0 88\n\
+keep 1\n\
+keep 1 700 0\n\
+kept 1 700 read 0 88\n\
+kept 1 700 write 0\n\
+kept 1 write 700 0 88\n\
+no\n\
+no 18446744073709551616\n\
+no 2 2\n\
+seed\n\
+seed x\n\
+new 1\n\
+new \n\
+news\n\
+# a note\n\
+2 get 5\0";
 
 #[test]
 fn bad_lines() -> Result<(), Fail> {
     let mut lines = Lines::new(BAD);
     for k in 1..50u64 {
-        check(lines.advance()?)?;
-        check_eq(lines.number(), k)?;
+        check_eq(lines.advance()?, Some(k))?;
         check_eq(read_line(lines.line()), None)?;
     }
-    check(!lines.advance()?)
+    check_eq(lines.advance()?, None)
 }
 
 // Noughts before a number, so that the line has this many bytes.
@@ -121,16 +191,30 @@ fn long_lines() -> Result<(), Fail> {
     bytes[302] = b'o';
     bytes[303] = b' ';
     let mut lines = Lines::new(&bytes[0..305]);
-    check(lines.advance()?)?;
+    check_eq(lines.advance()?, Some(1))?;
     check_eq(read_line(lines.line()), None)?;
-    check(lines.advance()?)?;
+    check_eq(lines.advance()?, Some(2))?;
     check_eq(read_line(lines.line()), Some(Line::Refuse { n: 0 }))?;
-    check_eq(lines.number(), 2)?;
-    check(!lines.advance()?)
+    check_eq(lines.advance()?, None)
 }
 
-const TEXTS: &[u8] =
-    b"done\nlater\nno 7\nload 77\nstored\nfault\npoked\ntook 18446744073709551615\nput\nmiss\nkept\nnothing\nnot yet\nover\nline 10?\nno 0";
+const TEXTS: &[u8] = b"\
+done\n\
+later\n\
+no 7\n\
+load 77\n\
+stored\n\
+fault\n\
+poked\n\
+took 18446744073709551615\n\
+put\n\
+miss\n\
+kept\n\
+nothing\n\
+not yet\n\
+over\n\
+line 10?\n\
+no 0";
 
 #[test]
 fn texts() -> Result<(), Fail> {
@@ -154,10 +238,10 @@ fn texts() -> Result<(), Fail> {
         Outcome::No(0),
     ];
     for outcome in outcomes {
-        check(lines.advance()?)?;
+        check(lines.advance()?.is_some())?;
         let mut text = [0; 32];
         let len = outcome.write(&mut text);
         check_eq(&text[0..len], lines.line())?;
     }
-    check(!lines.advance()?)
+    check_eq(lines.advance()?, None)
 }
