@@ -6,11 +6,12 @@ ghost use Prim.Native.Nat.{_≤_};
 ghost use lib.Dec.{ltb};
 ghost use lib.ListN.{length, take};
 ghost use Rattle.script.specs.Counts.{Counted};
+use crate::reader::LONGEST;
 use std::io;
 use std::io::Read;
 
 // One byte more than a line has at most: what is longer is cut off there, and still is too long.
-const ROOM: usize = 257;
+const ROOM: usize = LONGEST + 1;
 
 // A line as far as it is read.
 #[derive(Drop)]

@@ -11,7 +11,7 @@ use crate::words::Words;
 use crate::words::is;
 
 // How many bytes a line has at most.
-const LONGEST: usize = 256;
+pub const LONGEST: usize = 256;
 
 // The line that the bytes write, if they write one. They have no line feed.
 pub fn read_line(bytes: &[u8]) -> Option<Line>
