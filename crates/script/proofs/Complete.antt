@@ -9,7 +9,7 @@ use Rattle.std.specs.declared.option.Option.{Option}
 use Rattle.std.specs.declared.option.Option.the-variants.{Some, None}
 use Rattle.script.specs.Decimal.{indexOf, exactOf}
 use Rattle.script.specs.Language.{Part, text, index, exact, Written, access, requestParts, partsOf}
-use Rattle.script.specs.Parser.{modeOf, giveOf, regsOf, lendOf, requestOf, loadOf, storeOf, programOf, readOf, writeOf, wayOf, accessOf, keepOf, keptWay, keptOf, machineOf, headOf, sentenceOf}
+use Rattle.script.specs.Parser.{modeOf, giveOf, regsOf, lendOf, simpleOf, requestOf, loadOf, storeOf, programOf, readOf, writeOf, wayOf, accessOf, keepOf, keptWay, keptOf, machineOf, headOf, sentenceOf}
 use Rattle.script.specs.Parts.{andThen, first, later, atEnd, lastOf}
 use Rattle.script.proofs.Steps.{index-step, text-step, index-last, exact-last, mode-last, none-left}
 use Rattle.script.specs.declared.forms.Line.{Line}
@@ -39,26 +39,26 @@ lend-read v d p m ws h =
     let e = index-step p (text (access m) ∷ []) (later (later ws)) (b .1) in
     simp (a .0, b .0, e .0, mode-last m (later (later (later ws))) (e .1))
 
-one-read : (f : ℕ → Request) (n : ℕ) (ws : Words) → Written (index n ∷ []) ws → mapped f (lastOf indexOf ws) ≡ Some (f n)
-one-read f n ws h = simp (index-last n ws h)
+simple-read : (verb : List ℕ) (n : ℕ) (q : Request) (ws : Words) → Written (index n ∷ []) ws → simpleOf verb n ≡ Some q → andThen (lastOf indexOf ws) (simpleOf verb) ≡ Some q
+simple-read verb n q ws h e = ap (λ (o : Option ℕ). andThen o (simpleOf verb)) (index-last n ws h) ∙ e
 
 -- The words after a program's number.
 call-read : (who : ℕ) (q : Request) (ws : Words) → Written (requestParts q) ws → programOf who ws ≡ Some (Call who q)
 call-read who (Get v) ws h =
     let k = text-step (codes "get") (index v ∷ []) ws h in
-    ap (programOf who) (k .0) ∙ ap (mapped (λ r. Call who r)) (one-read (λ x. Get x) v (later ws) (k .1))
+    ap (programOf who) (k .0) ∙ ap (mapped (λ r. Call who r)) (simple-read (codes "get") v (Get v) (later ws) (k .1) refl)
 call-read who (Free v) ws h =
     let k = text-step (codes "free") (index v ∷ []) ws h in
-    ap (programOf who) (k .0) ∙ ap (mapped (λ r. Call who r)) (one-read (λ x. Free x) v (later ws) (k .1))
+    ap (programOf who) (k .0) ∙ ap (mapped (λ r. Call who r)) (simple-read (codes "free") v (Free v) (later ws) (k .1) refl)
 call-read who (Give v to at) ws h =
     let k = text-step (codes "give") (index v ∷ index to ∷ index at ∷ []) ws h in
     ap (programOf who) (k .0) ∙ ap (mapped (λ r. Call who r)) (give-read v to at (later ws) (k .1))
 call-read who (Open d) ws h =
     let k = text-step (codes "open") (index d ∷ []) ws h in
-    ap (programOf who) (k .0) ∙ ap (mapped (λ r. Call who r)) (one-read (λ x. Open x) d (later ws) (k .1))
+    ap (programOf who) (k .0) ∙ ap (mapped (λ r. Call who r)) (simple-read (codes "open") d (Open d) (later ws) (k .1) refl)
 call-read who (Close d) ws h =
     let k = text-step (codes "close") (index d ∷ []) ws h in
-    ap (programOf who) (k .0) ∙ ap (mapped (λ r. Call who r)) (one-read (λ x. Close x) d (later ws) (k .1))
+    ap (programOf who) (k .0) ∙ ap (mapped (λ r. Call who r)) (simple-read (codes "close") d (Close d) (later ws) (k .1) refl)
 call-read who (Regs d v) ws h =
     let k = text-step (codes "regs") (index d ∷ index v ∷ []) ws h in
     ap (programOf who) (k .0) ∙ ap (mapped (λ r. Call who r)) (regs-read d v (later ws) (k .1))
@@ -67,10 +67,10 @@ call-read who (Lend v d p m) ws h =
     ap (programOf who) (k .0) ∙ ap (mapped (λ r. Call who r)) (lend-read v d p m (later ws) (k .1))
 call-read who (Recall v) ws h =
     let k = text-step (codes "recall") (index v ∷ []) ws h in
-    ap (programOf who) (k .0) ∙ ap (mapped (λ r. Call who r)) (one-read (λ x. Recall x) v (later ws) (k .1))
+    ap (programOf who) (k .0) ∙ ap (mapped (λ r. Call who r)) (simple-read (codes "recall") v (Recall v) (later ws) (k .1) refl)
 call-read who (End w) ws h =
     let k = text-step (codes "end") (index w ∷ []) ws h in
-    ap (programOf who) (k .0) ∙ ap (mapped (λ r. Call who r)) (one-read (λ x. End x) w (later ws) (k .1))
+    ap (programOf who) (k .0) ∙ ap (mapped (λ r. Call who r)) (simple-read (codes "end") w (End w) (later ws) (k .1) refl)
 
 load-read : (who v word : ℕ) (ws : Words) → Written (index v ∷ index word ∷ []) ws → loadOf who ws ≡ Some (Load who v word)
 load-read who v word ws h =
@@ -140,16 +140,16 @@ pub complete : (l : Line) (ws : Words) → Written (partsOf l) ws → sentenceOf
 complete (Call who q) ws h = by-program who (Call who q) (requestParts q) ws h (call-read who q (later ws))
 complete (Store who v word x) ws h =
     by-program who (Store who v word x) (text (codes "store") ∷ index v ∷ index word ∷ exact x ∷ []) ws h
-      (λ k. by-verb who (Store who v word x) (codes "store") (index v ∷ index word ∷ exact x ∷ []) (later ws) k (store-read who v word x (later (later ws))))
+    (λ k. by-verb who (Store who v word x) (codes "store") (index v ∷ index word ∷ exact x ∷ []) (later ws) k (store-read who v word x (later (later ws))))
 complete (Load who v word) ws h =
     by-program who (Load who v word) (text (codes "load") ∷ index v ∷ index word ∷ []) ws h
-      (λ k. by-verb who (Load who v word) (codes "load") (index v ∷ index word ∷ []) (later ws) k (load-read who v word (later (later ws))))
+    (λ k. by-verb who (Load who v word) (codes "load") (index v ∷ index word ∷ []) (later ws) k (load-read who v word (later (later ws))))
 complete (Read d p word) ws h =
     by-text (Read d p word) (codes "dev") (index d ∷ text (codes "read") ∷ index p ∷ index word ∷ []) ws h
-      (λ k. access-read (Read d p word) d (codes "read") (index p ∷ index word ∷ []) (later ws) k (read-read d p word (later (later (later ws)))))
+    (λ k. access-read (Read d p word) d (codes "read") (index p ∷ index word ∷ []) (later ws) k (read-read d p word (later (later (later ws)))))
 complete (Write d p word x) ws h =
     by-text (Write d p word x) (codes "dev") (index d ∷ text (codes "write") ∷ index p ∷ index word ∷ exact x ∷ []) ws h
-      (λ k. access-read (Write d p word x) d (codes "write") (index p ∷ index word ∷ exact x ∷ []) (later ws) k (write-read d p word x (later (later (later ws)))))
+    (λ k. access-read (Write d p word x) d (codes "write") (index p ∷ index word ∷ exact x ∷ []) (later ws) k (write-read d p word x (later (later (later ws)))))
 complete (Keep d p) ws h = by-text (Keep d p) (codes "keep") (index d ∷ index p ∷ []) ws h (keep-read d p (later ws))
 complete (Kept d p word x) ws h =
     by-text (Kept d p word x) (codes "kept") (index d ∷ index p ∷ text (codes "write") ∷ index word ∷ exact x ∷ []) ws h (kept-read d p word x (later ws))

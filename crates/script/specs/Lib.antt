@@ -1,3 +1,4 @@
+pub mod Counts
 pub mod Decimal
 pub mod Language
 pub mod Left

@@ -27,19 +27,24 @@ regsOf ws = andThen (first indexOf ws) (λ d. mapped (λ v. Regs d v) (lastOf in
 abbrev pub lendOf : List (List ℕ) → Option Request
 lendOf ws =
     andThen (first indexOf ws) (λ v.
-      andThen (first indexOf (later ws)) (λ d.
-        andThen (first indexOf (later (later ws))) (λ p. mapped (λ m. Lend v d p m) (lastOf modeOf (later (later (later ws)))))))
+    andThen (first indexOf (later ws)) (λ d.
+    andThen (first indexOf (later (later ws))) (λ p. mapped (λ m. Lend v d p m) (lastOf modeOf (later (later (later ws)))))))
 
+-- The calls of one number.
+abbrev pub simpleOf : List ℕ → ℕ → Option Request
+simpleOf verb n =
+    cond (sameBytes verb (codes "get")) (Some (Get n)) (
+    cond (sameBytes verb (codes "free")) (Some (Free n)) (
+    cond (sameBytes verb (codes "open")) (Some (Open n)) (
+    cond (sameBytes verb (codes "close")) (Some (Close n)) (
+    cond (sameBytes verb (codes "recall")) (Some (Recall n)) (cond (sameBytes verb (codes "end")) (Some (End n)) None)))))
+
+-- After the verb of a call.
 abbrev pub requestOf : List ℕ → List (List ℕ) → Option Request
 requestOf verb ws =
-    cond (sameBytes verb (codes "get")) (mapped (λ v. Get v) (lastOf indexOf ws)) (
-      cond (sameBytes verb (codes "free")) (mapped (λ v. Free v) (lastOf indexOf ws)) (
-        cond (sameBytes verb (codes "open")) (mapped (λ d. Open d) (lastOf indexOf ws)) (
-          cond (sameBytes verb (codes "close")) (mapped (λ d. Close d) (lastOf indexOf ws)) (
-            cond (sameBytes verb (codes "recall")) (mapped (λ v. Recall v) (lastOf indexOf ws)) (
-              cond (sameBytes verb (codes "end")) (mapped (λ who. End who) (lastOf indexOf ws)) (
-                cond (sameBytes verb (codes "give")) (giveOf ws) (
-                  cond (sameBytes verb (codes "regs")) (regsOf ws) (cond (sameBytes verb (codes "lend")) (lendOf ws) None))))))))
+    cond (sameBytes verb (codes "give")) (giveOf ws) (
+    cond (sameBytes verb (codes "regs")) (regsOf ws) (
+    cond (sameBytes verb (codes "lend")) (lendOf ws) (andThen (lastOf indexOf ws) (simpleOf verb))))
 
 abbrev pub loadOf : ℕ → List (List ℕ) → Option Line
 loadOf who ws = andThen (first indexOf ws) (λ v. mapped (λ word. Load who v word) (lastOf indexOf (later ws)))
@@ -53,7 +58,7 @@ abbrev pub programOf : ℕ → List (List ℕ) → Option Line
 programOf who [] = None
 programOf who (verb ∷ ws) =
     cond (sameBytes verb (codes "load")) (loadOf who ws) (
-      cond (sameBytes verb (codes "store")) (storeOf who ws) (mapped (λ request. Call who request) (requestOf verb ws)))
+    cond (sameBytes verb (codes "store")) (storeOf who ws) (mapped (λ request. Call who request) (requestOf verb ws)))
 
 abbrev pub readOf : ℕ → List (List ℕ) → Option Line
 readOf d ws = andThen (first indexOf ws) (λ p. mapped (λ word. Read d p word) (lastOf indexOf (later ws)))
@@ -84,11 +89,11 @@ keptOf ws = andThen (first indexOf ws) (λ d. andThen (first indexOf (later ws))
 abbrev pub machineOf : List ℕ → List (List ℕ) → Option Line
 machineOf head ws =
     cond (sameBytes head (codes "dev")) (accessOf ws) (
-      cond (sameBytes head (codes "keep")) (keepOf ws) (
-        cond (sameBytes head (codes "kept")) (keptOf ws) (
-          cond (sameBytes head (codes "no")) (mapped (λ n. Refuse n) (lastOf exactOf ws)) (
-            cond (sameBytes head (codes "seed")) (mapped (λ s. Seed s) (lastOf exactOf ws)) (
-              cond (sameBytes head (codes "new")) (cond (atEnd ws) (Some New) None) None)))))
+    cond (sameBytes head (codes "keep")) (keepOf ws) (
+    cond (sameBytes head (codes "kept")) (keptOf ws) (
+    cond (sameBytes head (codes "no")) (mapped (λ n. Refuse n) (lastOf exactOf ws)) (
+    cond (sameBytes head (codes "seed")) (mapped (λ s. Seed s) (lastOf exactOf ws)) (
+    cond (sameBytes head (codes "new")) (cond (atEnd ws) (Some New) None) None)))))
 
 -- By whether the first word is a number.
 abbrev pub headOf : Option ℕ → List (List ℕ) → Option Line

@@ -3,15 +3,39 @@
 // What a program asks of the keeper. v: a place in its own space; d: a device; p: a page of what a device sees.
 #[derive(Clone, Copy, PartialEq, Eq, Debug)]
 pub enum Request {
-    Get { v: u32 },
-    Free { v: u32 },
-    Give { v: u32, to: u32, at: u32 },
-    Open { d: u32 },
-    Close { d: u32 },
-    Regs { d: u32, v: u32 },
-    Lend { v: u32, d: u32, p: u32, writes: bool },
-    Recall { v: u32 },
-    End { who: u32 },
+    Get {
+        v: u32,
+    },
+    Free {
+        v: u32,
+    },
+    Give {
+        v: u32,
+        to: u32,
+        at: u32,
+    },
+    Open {
+        d: u32,
+    },
+    Close {
+        d: u32,
+    },
+    Regs {
+        d: u32,
+        v: u32,
+    },
+    Lend {
+        v: u32,
+        d: u32,
+        p: u32,
+        writes: bool,
+    },
+    Recall {
+        v: u32,
+    },
+    End {
+        who: u32,
+    },
 }
 
 #[derive(Clone, Copy, PartialEq, Eq, Debug)]

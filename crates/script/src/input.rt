@@ -2,15 +2,16 @@
 ghost use mathlib.Core.Path.{_≡_};
 ghost use mathlib.Core.Bool.{cond};
 ghost use mathlib.Core.List.{[], _∷_, _++_};
-ghost use Prim.Native.Nat.{_+_, _-_, _^_, _≤_, min};
+ghost use Prim.Native.Nat.{_≤_};
 ghost use lib.Dec.{ltb};
 ghost use lib.ListN.{length, take};
-ghost use Rattle.std.specs.Results.{Cases};
+ghost use Rattle.script.specs.Counts.{Counted};
+use crate::reader::LONGEST;
 use std::io;
 use std::io::Read;
 
 // One byte more than a line has at most: what is longer is cut off there, and still is too long.
-const ROOM: usize = 257;
+const ROOM: usize = LONGEST + 1;
 
 // A line as far as it is read.
 #[derive(Drop)]
@@ -58,23 +59,23 @@ impl Held {
 pub struct Lines<R> {
     input: R,
     held: Held,
-    number: u64,
+    count: u64,
 }
 
 impl<R: Read> Lines<R> {
     pub fn new(input: R) -> Lines<R>
-        ensures { λ r. ⌜ r .number ≡ 0 ⌝ }
+        ensures { λ r. ⌜ r .count ≡ 0 ⌝ }
     {
         Lines {
             input,
             held: Held::new(),
-            number: 0,
+            count: 0,
         }
     }
 
-    // Goes to the next line, if there is one.
-    pub fn advance(&mut self) -> io::Result<bool>
-        ensures { λ r. ⌜ Cases r (λ began. now (self .exit) .number ≡ cond began (min (now (self .entry) .number + 1) (2 ^ 64 - 1)) (now (self .entry) .number)) (λ _. now (self .exit) .number ≡ now (self .entry) .number) ⌝ }
+    // Goes to the next line, if there is one, and gives its number, from 1.
+    pub fn advance(&mut self) -> io::Result<Option<u64>>
+        ensures { λ r. ⌜ Counted (now (self .entry) .count) r (now (self .exit) .count) ⌝ }
     {
         self.held.clear();
         let mut began = false;
@@ -89,10 +90,11 @@ impl<R: Read> Lines<R> {
             }
             self.held.push(byte[0]);
         }
-        if began {
-            self.number = self.number.saturating_add(1);
+        if !began {
+            return Ok(None);
         }
-        Ok(began)
+        self.count = self.count.saturating_add(1);
+        Ok(Some(self.count))
     }
 
     // The line without its line feed, or its first 257 bytes.
@@ -101,12 +103,5 @@ impl<R: Read> Lines<R> {
         ensures within { λ r. ⌜ length (now r) ≤ 257 ⌝ }
     {
         self.held.bytes()
-    }
-
-    // The line's number, from 1.
-    pub fn number(&self) -> u64
-        ensures { λ r. ⌜ r ≡ now (self .entry) .number ⌝ }
-    {
-        self.number
     }
 }

@@ -5,6 +5,8 @@ mod input;
 mod numbers;
 mod outcomes;
 mod reader;
+#[cfg(test)]
+mod tests;
 mod words;
 
 pub use forms::Line;

@@ -1,7 +1,6 @@
 // Decimal numbers of any length.
 ghost use mathlib.Core.Path.{_≡_};
 ghost use mathlib.Core.Bool.{true};
-ghost use Prim.Native.Nat.{_^_, _<_};
 ghost use Rattle.std.specs.Options.{mapped};
 ghost use Rattle.std.specs.shelf.Text.{allDigits};
 ghost use Rattle.script.specs.Decimal.{isNumber, value, numberOf};
@@ -25,6 +24,7 @@ impl Number {
         }
     }
 
+    // The number, if it is not too large.
     pub fn exact(self) -> Option<u64>
         ensures { λ r. ⌜ r ≡ exactFrom self ⌝ }
     {
@@ -45,6 +45,7 @@ pub fn read_number(word: &[u8]) -> Option<Number>
     Some(value_of(word))
 }
 
+// At least one digit, and nothing else.
 fn is_number(word: &[u8]) -> bool
     ensures { λ r. ⌜ r ≡ isNumber (now (word .entry)) ⌝ }
 {
@@ -59,6 +60,7 @@ fn is_number(word: &[u8]) -> bool
     true
 }
 
+// The value of digits, or that it does not fit.
 fn value_of(digits: &[u8]) -> Number
     requires { ⌜ allDigits (now digits) ≡ true ⌝ }
     ensures { λ r. ⌜ r ≡ sized (value (now (digits .entry))) ⌝ }

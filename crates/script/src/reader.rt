@@ -3,7 +3,7 @@ ghost use mathlib.Core.Path.{_≡_};
 ghost use Rattle.std.specs.declared.option.Option.the-variants.{Some};
 ghost use Rattle.script.specs.Language.{Writes};
 ghost use Rattle.script.specs.Left.{left};
-ghost use Rattle.script.specs.Parser.{sentenceOf, programOf, machineOf, loadOf, storeOf, accessOf, readOf, writeOf, keepOf, keptOf, requestOf, giveOf, regsOf, lendOf, modeOf};
+ghost use Rattle.script.specs.Parser.{sentenceOf, programOf, machineOf, loadOf, storeOf, accessOf, readOf, writeOf, keepOf, keptOf, requestOf, simpleOf, giveOf, regsOf, lendOf, modeOf};
 use crate::forms::Line;
 use crate::forms::Request;
 use crate::numbers::read_number;
@@ -11,7 +11,7 @@ use crate::words::Words;
 use crate::words::is;
 
 // How many bytes a line has at most.
-const LONGEST: usize = 256;
+pub const LONGEST: usize = 256;
 
 // The line that the bytes write, if they write one. They have no line feed.
 pub fn read_line(bytes: &[u8]) -> Option<Line>
@@ -80,10 +80,14 @@ fn machine_line(head: &[u8], words: &mut Words) -> Option<Line>
         return kept(words);
     }
     if is(head, b"no") {
-        return Some(Line::Refuse { n: words.last_exact()? });
+        return Some(Line::Refuse {
+            n: words.last_exact()?,
+        });
     }
     if is(head, b"seed") {
-        return Some(Line::Seed { s: words.last_exact()? });
+        return Some(Line::Seed {
+            s: words.last_exact()?,
+        });
     }
     if is(head, b"new") && words.at_end() {
         return Some(Line::New);
@@ -148,24 +152,6 @@ fn kept(words: &mut Words) -> Option<Line>
 fn request(verb: &[u8], words: &mut Words) -> Option<Request>
     ensures { λ r. ⌜ r ≡ requestOf (now (verb .entry)) (left (now (words .entry))) ⌝ }
 {
-    if is(verb, b"get") {
-        return Some(Request::Get { v: words.last_index()? });
-    }
-    if is(verb, b"free") {
-        return Some(Request::Free { v: words.last_index()? });
-    }
-    if is(verb, b"open") {
-        return Some(Request::Open { d: words.last_index()? });
-    }
-    if is(verb, b"close") {
-        return Some(Request::Close { d: words.last_index()? });
-    }
-    if is(verb, b"recall") {
-        return Some(Request::Recall { v: words.last_index()? });
-    }
-    if is(verb, b"end") {
-        return Some(Request::End { who: words.last_index()? });
-    }
     if is(verb, b"give") {
         return give(words);
     }
@@ -174,6 +160,32 @@ fn request(verb: &[u8], words: &mut Words) -> Option<Request>
     }
     if is(verb, b"lend") {
         return lend(words);
+    }
+    let n = words.last_index()?;
+    simple(verb, n)
+}
+
+// The calls of one number.
+fn simple(verb: &[u8], n: u32) -> Option<Request>
+    ensures { λ r. ⌜ r ≡ simpleOf (now (verb .entry)) n ⌝ }
+{
+    if is(verb, b"get") {
+        return Some(Request::Get { v: n });
+    }
+    if is(verb, b"free") {
+        return Some(Request::Free { v: n });
+    }
+    if is(verb, b"open") {
+        return Some(Request::Open { d: n });
+    }
+    if is(verb, b"close") {
+        return Some(Request::Close { d: n });
+    }
+    if is(verb, b"recall") {
+        return Some(Request::Recall { v: n });
+    }
+    if is(verb, b"end") {
+        return Some(Request::End { who: n });
     }
     None
 }
@@ -202,7 +214,11 @@ fn lend(words: &mut Words) -> Option<Request>
     let d = words.index()?;
     let p = words.index()?;
     let writes = mode(words.next()?)?;
-    if words.at_end() { Some(Request::Lend { v, d, p, writes }) } else { None }
+    if words.at_end() {
+        Some(Request::Lend { v, d, p, writes })
+    } else {
+        None
+    }
 }
 
 // Whether a page is lent to be written.

@@ -1,16 +1,17 @@
 // The words of a line, one by one.
 ghost use mathlib.Core.Path.{_≡_};
+ghost use mathlib.Core.List.{[], _∷_};
 ghost use Prim.Native.Nat.{ℕ, _<_, _≤_};
 ghost use lib.ListN.{length, getD};
 ghost use Rattle.std.specs.Options.{Cases};
 ghost use Rattle.std.specs.shelf.Text.{sameBytes};
-ghost use mathlib.Core.List.{[], _∷_};
-ghost use Rattle.script.specs.Spaces.{wordsOf};
-ghost use Rattle.script.specs.Left.{left};
 ghost use Rattle.script.specs.Decimal.{indexOf, exactOf};
+ghost use Rattle.script.specs.Left.{left};
 ghost use Rattle.script.specs.Parts.{first, later, atEnd, lastOf};
+ghost use Rattle.script.specs.Spaces.{wordsOf};
 use crate::numbers::read_number;
 
+// A line from which words are taken, from the left.
 #[derive(Drop)]
 pub struct Words<'a> {
     rest: &'a [u8],
@@ -27,6 +28,7 @@ impl<'a> Words<'a> {
         }
     }
 
+    // The next word. After the last there is none.
     pub fn next(&mut self) -> Option<&'a [u8]>
         ensures { λ r. ⌜ Cases r ((left (now (self .entry)) ≡ []) × (left (now (self .exit)) ≡ [])) (λ w. left (now (self .entry)) ≡ now w ∷ left (now (self .exit))) ⌝ }
     {
@@ -49,6 +51,7 @@ impl<'a> Words<'a> {
         self.finished
     }
 
+    // The next word as a number, or 2^32 - 1 where it is larger.
     pub fn index(&mut self) -> Option<u32>
         ensures value { λ r. ⌜ r ≡ first indexOf (left (now (self .entry))) ⌝ }
         ensures rest { λ _. ⌜ left (now (self .exit)) ≡ later (left (now (self .entry))) ⌝ }
@@ -58,6 +61,7 @@ impl<'a> Words<'a> {
         Some(number.index())
     }
 
+    // The next word as a number below 2^64.
     pub fn exact(&mut self) -> Option<u64>
         ensures value { λ r. ⌜ r ≡ first exactOf (left (now (self .entry))) ⌝ }
         ensures rest { λ _. ⌜ left (now (self .exit)) ≡ later (left (now (self .entry))) ⌝ }
@@ -67,6 +71,7 @@ impl<'a> Words<'a> {
         number.exact()
     }
 
+    // The same of a word that has to be the last.
     pub fn last_index(&mut self) -> Option<u32>
         ensures { λ r. ⌜ r ≡ lastOf indexOf (left (now (self .entry))) ⌝ }
     {

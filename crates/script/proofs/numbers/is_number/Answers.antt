@@ -11,10 +11,11 @@ use Rattle.script.proofs.numbers.is_number.Needs.{then-b-lt48·by·then-b-lt48
 pub returns-then-b-lt48 : need.returns-then-b-lt48
 returns-then-b-lt48 c =
     sym (not-one (c .args .word .now) (c .loop-b .b-index) (c .loop-b-test .taken)
-      (elim (c .then-b-lt48 .came) [
-        then-b-lt48·by·then-b-lt48 w ↦ inl (w .if-b-lt48 .taken)
-      | then-b-lt48·by·else-b-lt48·then-b-gt57 w ↦ inr (w .if-b-gt57 .taken) ])
-      (c .loop-b .inv))
+    (elim (c .then-b-lt48 .came) [
+      | then-b-lt48·by·then-b-lt48 w ↦ inl (w .if-b-lt48 .taken)
+      | then-b-lt48·by·else-b-lt48·then-b-gt57 w ↦ inr (w .if-b-gt57 .taken)
+    ])
+    (c .loop-b .inv))
 
 pub loop-b-again : need.loop-b-again
 loop-b-again c =

@@ -13,7 +13,8 @@ returns-then-n-lt10 t c =
     record {
       within = omega arith;
       end = omega (arith, ap length e);
-      after = c .put .ensures .after ∙ ap (λ (ds : List ℕ). take (c .args .at) (c .args .out .now) ++ ds) e }
+      after = c .put .ensures .after ∙ ap (λ (ds : List ℕ). take (c .args .at) (c .args .out .now) ++ ds) e;
+    }
 
 pub put-requires-2 : need.put-requires-2
 put-requires-2 t c κs =
@@ -29,6 +30,7 @@ returns t c =
       within = omega arith;
       end = omega arith;
       after =
-        c .put-2 .ensures .after
+          c .put-2 .ensures .after
           ∙ ap (λ (front : List ℕ). front ++ ((48 + c .args .n % 10) ∷ [])) (c .put-number-end .ensures .after)
-          ∙ more-digits (c .args .n) (c .if-n-lt10 .left) small (take (c .args .at) (c .args .out .now)) }
+          ∙ more-digits (c .args .n) (c .if-n-lt10 .left) small (take (c .args .at) (c .args .out .now));
+    }

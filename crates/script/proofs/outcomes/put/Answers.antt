@@ -12,5 +12,6 @@ returns c =
     record {
       end = refl;
       after =
-        take-putMid (c .args .at) (c .args .at + length (c .args .text .now) - c .args .at) (c .args .out .now) (c .copy-from-slice .last .self) (c .args .at + length (c .args .text .now)) (ap (λ (t : List ℕ). c .args .at + length t) (sym copied)) (omega arith)
-          ∙ ap (λ (t : List ℕ). take (c .args .at) (c .args .out .now) ++ t) copied }
+          take-putMid (c .args .at) (c .args .at + length (c .args .text .now) - c .args .at) (c .args .out .now) (c .copy-from-slice .last .self) (c .args .at + length (c .args .text .now)) (ap (λ (t : List ℕ). c .args .at + length t) (sym copied)) (omega arith)
+          ∙ ap (λ (t : List ℕ). take (c .args .at) (c .args .out .now) ++ t) copied;
+    }

@@ -13,6 +13,6 @@ returns-in-Some c =
     let who = known (numberOf (c .in-Continue-word .word .now)) (c .in-Some .who) (sym (c .in-Some .ensures tt)) in
     let words = c .in-Continue-word .ensures tt in
     c .program-line .ensures
-      ∙ ap (λ (k : ℕ). programOf k (left (c .next .last .self))) (c .index .ensures)
-      ∙ ap (λ (o : Option ℕ). headOf o (c .in-Continue-word .word .now ∷ left (c .next .last .self))) (sym who)
-      ∙ ap sentenceOf (sym words)
+    ∙ ap (λ (k : ℕ). programOf k (left (c .next .last .self))) (c .index .ensures)
+    ∙ ap (λ (o : Option ℕ). headOf o (c .in-Continue-word .word .now ∷ left (c .next .last .self))) (sym who)
+    ∙ ap sentenceOf (sym words)
