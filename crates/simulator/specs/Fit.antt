@@ -7,7 +7,7 @@ use Prim.Native.Nat.{ℕ, _+_, _*_, _%_, _<_, _≤_}
 use lib.ListN.{length, getD}
 use Rattle.simulator.specs.declared.rows.Device.{Device}
 use Rattle.simulator.specs.declared.lent.Unfit.{Unfit}
-use Rattle.simulator.specs.declared.lent.Unfit.the-variants.{Frames, Spaces, Devices, Numbers, Log}
+use Rattle.simulator.specs.declared.lent.Unfit.the-variants.{Frames, Spaces, Devices, Numbers, Log, Room}
 use Rattle.simulator.specs.Store.{noDevice}
 
 abbrev pub InRange : List Device → Type 0
@@ -26,3 +26,4 @@ Misfit Spaces m s ds l = s ≡ 32768 → ⊥
 Misfit Devices m s ds l = 32 < length ds
 Misfit Numbers m s ds l = OutOfRange ds
 Misfit Log m s ds l = l < 2050
+Misfit Room m s ds l = ⊥

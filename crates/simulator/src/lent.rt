@@ -8,12 +8,11 @@ ghost use Rattle.simulator.specs.Fit.{Fit, Misfit, InRange, OutOfRange};
 use crate::rows::Device;
 use crate::rows::Note;
 
-// Words of memory, of spaces, of the four lists of what the unit keeps; the devices; rows for the log.
+// Words of memory, of spaces, of the four lists of what the unit keeps, and rows for the log.
 #[derive(Drop)]
 pub struct Lent<'a> {
     pub memory: &'a mut [u64],
     pub spaces: &'a mut [u64],
-    pub devices: &'a [Device],
     pub ups: &'a mut [u64],
     pub mids: &'a mut [u64],
     pub leaves: &'a mut [u64],
@@ -34,6 +33,8 @@ pub enum Unfit {
     Numbers,
     // no room for the events of one call
     Log,
+    // the keeper wants 65,536 words, and two for each frame
+    Room,
 }
 
 // Are all groups and drivers below 32?
@@ -48,15 +49,15 @@ fn in_range(devices: &[Device]) -> bool
     true
 }
 
-// Refuses by the first of these reasons that applies.
-pub fn check(memory: &[u64], spaces: &[u64], devices: &[Device], log: &[Note]) -> Result<(), Unfit>
-    ensures { λ r. ⌜ Cases r (λ _. Fit (length (now (memory .entry))) (length (now (spaces .entry))) (now (devices .entry)) (length (now (log .entry)))) (λ e. Misfit e (length (now (memory .entry))) (length (now (spaces .entry))) (now (devices .entry)) (length (now (log .entry)))) ⌝ }
+// Can a machine be made of so many words of memory and of spaces, these devices, and so many rows of the log?
+// If not, the first reason that applies.
+pub fn check(memory: usize, spaces: usize, devices: &[Device], log: usize) -> Result<(), Unfit>
+    ensures { λ r. ⌜ Cases r (λ _. Fit memory spaces (now (devices .entry)) log) (λ e. Misfit e memory spaces (now (devices .entry)) log) ⌝ }
 {
-    let words = memory.len();
-    if words < 32768 || words > 33554432 || words % 512 != 0 {
+    if memory < 32768 || memory > 33554432 || memory % 512 != 0 {
         return Err(Unfit::Frames);
     }
-    if spaces.len() != 32768 {
+    if spaces != 32768 {
         return Err(Unfit::Spaces);
     }
     if devices.len() > 32 {
@@ -65,7 +66,7 @@ pub fn check(memory: &[u64], spaces: &[u64], devices: &[Device], log: &[Note]) -
     if !in_range(devices) {
         return Err(Unfit::Numbers);
     }
-    if log.len() < 2050 {
+    if log < 2050 {
         return Err(Unfit::Log);
     }
     Ok(())

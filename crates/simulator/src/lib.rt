@@ -7,6 +7,7 @@ pub mod lent;
 mod lists;
 pub mod log;
 pub mod memory;
+pub mod plays;
 pub mod replies;
 pub mod rows;
 pub mod sim;

@@ -44,17 +44,17 @@ enum Turn {
 }
 
 #[derive(Drop)]
-pub struct Sim<'b, 'a, S> {
+pub struct Sim<'a, 'b, 's, S> {
     pub board: &'b mut Board<'a>,
-    pub script: S,
+    pub script: &'s mut S,
     pub ended: Ended,
 }
 
-impl<'b, 'a, S: Script> Sim<'b, 'a, S> {
+impl<'a, 'b, 's, S: Script> Sim<'a, 'b, 's, S> {
     // One line is played, and what is said of it is handed over.
     fn play_line(&mut self, line: Line) -> Reply
         ensures board { λ r. ⌜ Replied line (partsOf (now (now (self .entry) .board))) r (partsOf (now (now (self .exit) .board))) ⌝ }
-        ensures script { λ r. ⌜ HandedOver (S·Script .handed) (now (self .entry) .script) line r (now (self .exit) .script) ⌝ }
+        ensures script { λ r. ⌜ HandedOver (S·Script .handed) (now (now (self .entry) .script)) line r (now (now (self .exit) .script)) ⌝ }
     {
         let reply = self.board.answer(line);
         match reply {
@@ -104,14 +104,14 @@ impl<'b, 'a, S: Script> Sim<'b, 'a, S> {
         requires { ⌜ Explained can (startOf (hwOf (partsOf (now (now self .board))))) (Told who c a ∷ seenOf (partsOf (now (now self .board)))) ⌝ }
         ensures hw { λ _. ⌜ hwOf (partsOf (now (now (self .exit) .board))) ≡ hwOf (partsOf (now (now (self .entry) .board))) ⌝ }
         ensures seen { λ _. ⌜ seenOf (partsOf (now (now (self .exit) .board))) ≡ Told who c a ∷ seenOf (partsOf (now (now (self .entry) .board))) ⌝ }
-        ensures script { λ _. ⌜ S·Script .handed (now (self .entry) .script) (outcomeOf (Told who c a)) (now (self .exit) .script) ⌝ }
+        ensures script { λ _. ⌜ S·Script .handed (now (now (self .entry) .script)) (outcomeOf (Told who c a)) (now (now (self .exit) .script)) ⌝ }
     {
         self.board.tell(who, c, a);
         self.script.outcome(said(a));
     }
 }
 
-pub impl<'b, 'a, S: Script> Machine for Sim<'b, 'a, S> as SimMachine {
+pub impl<'a, 'b, 's, S: Script> Machine for Sim<'a, 'b, 's, S> as SimMachine {
     ghost hw = { λ s. hwOf (partsOf (now (s .board))) };
 
     ghost seen = { λ s. seenOf (partsOf (now (s .board))) };
@@ -161,7 +161,7 @@ pub impl<'b, 'a, S: Script> Machine for Sim<'b, 'a, S> as SimMachine {
     }
 }
 
-pub impl<'b, 'a, S: Script> World for Sim<'b, 'a, S> as SimWorld {
+pub impl<'a, 'b, 's, S: Script> World for Sim<'a, 'b, 's, S> as SimWorld {
     fn next(&mut self) -> Option<(u32, Call)> {
         for _ in 0..u64::MAX {
             match self.turn() {

@@ -13,18 +13,19 @@ use crate::kept::Kept;
 use crate::lent::Lent;
 use crate::log::Log;
 use crate::memory::Memory;
+use crate::rows::Device;
 use crate::spaces::Spaces;
 
 impl<'a> Board<'a> {
-    pub fn new(lent: Lent<'a>) -> Board<'a>
-        requires { ⌜ Fit (length (now (lent .memory))) (length (now (lent .spaces))) (now (lent .devices)) (length (now (lent .log))) ⌝ }
+    pub fn new(lent: Lent<'a>, devices: &'a [Device]) -> Board<'a>
+        requires { ⌜ Fit (length (now (lent .memory))) (length (now (lent .spaces))) (now devices) (length (now (lent .log))) ⌝ }
         ensures hw { λ r. ⌜ AtStart (hwOf (partsOf r)) ⌝ }
+        ensures frames { λ r. ⌜ partsOf r .frames ≡ length (now (lent .entry .memory)) / 512 ⌝ }
         ensures seen { λ r. ⌜ seenOf (partsOf r) ≡ [] ⌝ }
     {
         let Lent {
             memory,
             spaces,
-            devices,
             ups,
             mids,
             leaves,
