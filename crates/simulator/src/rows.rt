@@ -39,6 +39,17 @@ const MISSED: u32 = 8;
 const DRAINED: u32 = 9;
 
 impl Note {
+    // A row that tells nothing yet.
+    pub const BLANK: Note = Note {
+        kind: 0,
+        who: 0,
+        a: 0,
+        b: 0,
+        c: 0,
+        d: 0,
+        x: 0,
+    };
+
     // A row of one kind with a call in it; its number stands in `d`.
     fn with_call(kind: u32, who: u32, call: Call, x: u64) -> Note
         ensures kind { λ r. ⌜ r .kind ≡ kind ⌝ ∗ ⌜ r .who ≡ who ⌝ ∗ ⌜ r .x ≡ x ⌝ }
