@@ -2,9 +2,9 @@
 use Prim.Native.Nat.{ℕ}
 use lib.Dec.{T}
 use mathlib.Core.Path.{_≡_, sym, subst}
-use mathlib.Core.Bool.{not}
+use mathlib.Core.Bool.{Bool, not}
 use Rattle.house.specs.declared.Call.{Call}
-use Rattle.house.specs.declared.Call.the-variants.{Get, Free}
+use Rattle.house.specs.declared.Call.the-variants.{Get, Free, Lend}
 use Rattle.house.specs.Promise.{can}
 
 pub get-built : (v : ℕ) → T (can (Get v))
@@ -16,3 +16,6 @@ free-built v = tt
 -- a call that is known to be one that is not built
 pub unbuilt : {c k : Call} → c ≡ k → T (not (can k)) → T (not (can c))
 unbuilt e t = subst (λ (z : Call). T (not (can z))) (sym e) t
+
+pub lend-built : (v d p : ℕ) (w : Bool) → T (can (Lend v d p w))
+lend-built v d p w = tt

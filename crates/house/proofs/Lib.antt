@@ -9,6 +9,7 @@ pub mod Getting
 pub mod Idle
 pub mod Keeping
 pub mod Known
+pub mod LendCalls
 pub mod Lending
 pub mod Memory
 pub mod PageWords

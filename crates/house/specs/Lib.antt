@@ -8,3 +8,4 @@ pub mod Serving
 pub mod Kept
 pub mod Operations
 pub mod Refusals
+pub mod Lends

@@ -21,7 +21,7 @@ can (Give v to at) = false
 can (Open d) = false
 can (Close d) = false
 can (Regs d v) = false
-can (Lend v d p w) = false
+can (Lend v d p w) = true
 can (Recall v) = false
 can (End w) = false
 

@@ -1,14 +1,17 @@
 -- The numbers of refusals, and what each says of the room when a call is refused by it: the first that applies.
 -- Nothing is assumed here.
 use mathlib.Core.Path.{_≡_}
-use Prim.Native.Nat.{ℕ, _<_, _≤_}
+use mathlib.Core.Bool.{true}
+use Prim.Native.Nat.{ℕ, _/_, _<_, _≤_}
 use Rattle.std.specs.declared.result.Result.{Result}
 use Rattle.std.specs.declared.result.Result.the-variants.{Ok, Err}
 use Rattle.ledger.specs.declared.Loan.the-variants as loan
 use Rattle.ledger.specs.declared.Use.the-variants as used
 use Rattle.ledger.specs.declared.Place.the-variants as place
+use Rattle.ledger.specs.declared.Device.the-variants as device
 use Rattle.ledger.specs.View as ledger
-use Rattle.ledger.specs.Uses.{loanIn}
+use Rattle.ledger.specs.Uses.{loanIn, isAt}
+use Rattle.house.specs.Lends.{Untaken, Lendable}
 use Rattle.house.specs.declared.Answer.{Answer}
 use Rattle.house.specs.declared.Answer.the-variants.{Done, Later, No}
 use Rattle.house.specs.declared.refusals.Refusal.{Refusal}
@@ -68,3 +71,15 @@ FreeRefused v c u Held = ⊥
 FreeRefused v c u NoFrame = ⊥
 FreeRefused v c u NotPermitted = ⊥
 FreeRefused v c u NotBuilt = ⊥
+
+-- c lends its page at u to device d, one of m, at its page p
+abbrev pub LendRefused : ledger.View → ℕ → ℕ → ℕ → ℕ → ℕ → ℕ → Refusal → Type 0
+LendRefused v n m c u d p OutOfRange = u < 1024 → d < m → p < 262144 → ⊥
+LendRefused v n m c u d p NoPage = (u < 1024) × (d < m) × (p < 262144) × ((f : ℕ) → v .place c u ≡ place.Page f → ⊥)
+LendRefused v n m c u d p Occupied = (u < 1024) × (d < m) × (p < 262144) × ((f : ℕ) × (v .place c u ≡ place.Page f)) × ((g : ℕ) × (isAt d p (loanIn (v .used g)) ≡ true))
+LendRefused v n m c u d p WrongLoan = (u < 1024) × (d < m) × (p < 262144) × ((f : ℕ) × (v .place c u ≡ place.Page f) × (loanIn (v .used f) ≡ loan.Home → ⊥)) × Untaken v d p
+LendRefused v n m c u d p NotYours = (u < 1024) × (d < m) × (p < 262144) × ((f : ℕ) × (v .place c u ≡ place.Page f) × (v .used f ≡ used.PageOf c u loan.Home)) × Untaken v d p × (v .device d ≡ device.Opened c → ⊥)
+LendRefused v n m c u d p Held = ⊥
+LendRefused v n m c u d p NoFrame = ((f : ℕ) × Lendable v m c u f d p) × (v .low d (p / 512) ≡ 0) × ((f : ℕ) → f < n → v .used f ≡ used.Idle → ⊥)
+LendRefused v n m c u d p NotPermitted = ⊥
+LendRefused v n m c u d p NotBuilt = ⊥

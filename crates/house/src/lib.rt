@@ -13,6 +13,7 @@ ghost use Rattle.house.specs.Serving.{Keeps, Begins};
 
 mod drains;
 mod frames;
+mod loans;
 mod operations;
 mod pages;
 mod refusals;
@@ -20,6 +21,8 @@ pub mod simulation;
 
 use frames::clear;
 use ledger::setup::set_up;
+use loans::Mapping;
+use loans::lend;
 use pages::free;
 use pages::get;
 use refusals::Refusal;
@@ -191,7 +194,14 @@ impl Keeper {
             Call::Open { .. } => Err(Refusal::NotBuilt),
             Call::Close { .. } => Err(Refusal::NotBuilt),
             Call::Regs { .. } => Err(Refusal::NotBuilt),
-            Call::Lend { .. } => Err(Refusal::NotBuilt),
+            Call::Lend { v, d, p, writes } => {
+                let at = Mapping {
+                    device: d,
+                    page: p,
+                    writes,
+                };
+                lend(w, room, &mut self.next, who, v, at)
+            }
             Call::Recall { .. } => Err(Refusal::NotBuilt),
             Call::End { .. } => Err(Refusal::NotBuilt),
         }

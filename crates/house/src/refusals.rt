@@ -1,21 +1,27 @@
 // Why a call is refused: the reasons, their numbers, and the tests that several calls share.
 ghost use mathlib.Core.Path.{_≡_};
+ghost use mathlib.Core.Bool.{true};
 ghost use Prim.Native.Nat.{ℕ, _+_, _*_, _<_, _≤_};
 ghost use lib.ListN.{length};
 ghost use Rattle.std.specs.Results.{Cases};
-ghost use Rattle.ledger.specs.Room.{placeOf};
+ghost use Rattle.ledger.specs.Room.{placeOf, deviceOf};
 ghost use Rattle.ledger.specs.declared.Place.the-variants.{Nothing, Page};
+ghost use Rattle.ledger.specs.declared.Device.the-variants.{Opened};
 ghost use Rattle.ledger.specs.declared.Loan.the-variants.{Home};
 ghost use Rattle.ledger.specs.declared.Use.the-variants.{PageOf};
 ghost use Rattle.ledger.specs.View.{viewOf};
-ghost use Rattle.ledger.specs.Uses.{loanIn};
+ghost use Rattle.ledger.specs.Uses.{loanIn, isAt};
 ghost use Rattle.ledger.specs.Consistent.{Consistent};
+ghost use Rattle.house.specs.Lends.{Untaken};
 ghost use Rattle.house.specs.Refusals.{numberOf};
+use ledger::Device;
 use ledger::Loan;
 use ledger::Place;
 use ledger::Use;
+use ledger::devices::device_at;
 use ledger::frames::use_at;
 use ledger::places::place_at;
+use ledger::searches::page_taken;
 
 // The reasons, in the order of their numbers.
 #[derive(Clone, Copy)]
@@ -94,5 +100,28 @@ pub fn at_home(room: &[u64], frames: u32, who: u32, v: u32, f: u32) -> Result<()
             loan: Loan::Home,
         } => Ok(()),
         _ => Err(Refusal::WrongLoan),
+    }
+}
+
+// No page is lent to d at p, or leaving it there: one that leaves may still be reached.
+pub fn untaken(room: &[u64], frames: u32, d: u32, p: u32) -> Result<(), Refusal>
+    requires { ⌜ Consistent frames (now room) ⌝ ∗ ⌜ d < 32 ⌝ }
+    ensures { λ r. ⌜ Cases r (λ _. Untaken (viewOf frames (now (room .entry))) d p) (λ e. (e ≡ Refusal.Occupied) × ((g : ℕ) × (isAt d p (loanIn (viewOf frames (now (room .entry)) .used g)) ≡ true))) ⌝ }
+{
+    if page_taken(room, frames, d, p) {
+        Err(Refusal::Occupied)
+    } else {
+        Ok(())
+    }
+}
+
+// `who` has the device open.
+pub fn opened(room: &[u64], who: u32, d: u32) -> Result<(), Refusal>
+    requires { ⌜ 65536 ≤ length (now room) ⌝ ∗ ⌜ d < 32 ⌝ }
+    ensures { λ r. ⌜ Cases r (λ _. deviceOf (now (room .entry)) d ≡ Opened who) (λ e. (e ≡ Refusal.NotYours) × (deviceOf (now (room .entry)) d ≡ Opened who → ⊥)) ⌝ }
+{
+    match device_at(room, d) {
+        Device::Opened(owner) if owner == who => Ok(()),
+        _ => Err(Refusal::NotYours),
     }
 }
