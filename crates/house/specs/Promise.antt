@@ -23,6 +23,10 @@ can (Close d) = false
 can (Regs d v) = true
 can (Lend v d p w) = false
 can (Recall v) = true
+
+can (Regs d v) = false
+can (Lend v d p w) = true
+can (Recall v) = false
 can (End w) = false
 
 -- the core stays built

@@ -14,6 +14,7 @@ ghost use Rattle.house.specs.Serving.{Keeps, Begins};
 mod devices;
 mod drains;
 mod frames;
+mod loans;
 mod operations;
 mod pages;
 mod recalls;
@@ -25,6 +26,8 @@ use devices::map_registers;
 use devices::open_device;
 use frames::clear;
 use ledger::setup::set_up;
+use loans::Mapping;
+use loans::lend;
 use pages::free;
 use pages::get;
 use recalls::recall;
@@ -200,6 +203,17 @@ impl Keeper {
             Call::Regs { d, v } => map_registers(w, room, who, d, v),
             Call::Lend { .. } => Err(Refusal::NotBuilt),
             Call::Recall { v } => recall(w, room, who, v),
+
+            Call::Regs { .. } => Err(Refusal::NotBuilt),
+            Call::Lend { v, d, p, writes } => {
+                let at = Mapping {
+                    device: d,
+                    page: p,
+                    writes,
+                };
+                lend(w, room, &mut self.next, who, v, at)
+            }
+            Call::Recall { .. } => Err(Refusal::NotBuilt),
             Call::End { .. } => Err(Refusal::NotBuilt),
         }
     }
