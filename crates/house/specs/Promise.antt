@@ -21,12 +21,8 @@ can (Give v to at) = true
 can (Open d) = true
 can (Close d) = false
 can (Regs d v) = true
-can (Lend v d p w) = false
-can (Recall v) = true
-
-can (Regs d v) = false
 can (Lend v d p w) = true
-can (Recall v) = false
+can (Recall v) = true
 can (End w) = false
 
 -- the core stays built

@@ -19,8 +19,8 @@ use crate::Machine;
 use crate::refusals::Refusal;
 use ledger::pages::new_page;
 use ledger::searches::find_idle;
-use ledger::tables::open_device;
 use ledger::tables::add_lower;
+use ledger::tables::open_device;
 
 pub struct Taken {
     frame: u32,
@@ -85,6 +85,9 @@ impl Taken {
         ensures consistent { λ _. ⌜ Consistent frames (now (room .exit)) ⌝ }
     {
         open_device(room, frames, who, d, self.frame);
+        self.settled = true;
+        self.frame
+    }
 
     // It becomes the lower table of d at a slot that had none.
     pub fn into_lower_table(mut self, room: &mut [u64], frames: u32, d: u32, slot: u32) -> u32

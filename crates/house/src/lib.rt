@@ -30,8 +30,8 @@ use loans::Mapping;
 use loans::lend;
 use pages::free;
 use pages::get;
-use recalls::recall;
 use pages::give;
+use recalls::recall;
 use refusals::Refusal;
 
 // the frame in which the device table is
@@ -201,10 +201,6 @@ impl Keeper {
             Call::Open { d } => open_device(w, room, &mut self.next, who, d),
             Call::Close { .. } => Err(Refusal::NotBuilt),
             Call::Regs { d, v } => map_registers(w, room, who, d, v),
-            Call::Lend { .. } => Err(Refusal::NotBuilt),
-            Call::Recall { v } => recall(w, room, who, v),
-
-            Call::Regs { .. } => Err(Refusal::NotBuilt),
             Call::Lend { v, d, p, writes } => {
                 let at = Mapping {
                     device: d,
@@ -213,7 +209,7 @@ impl Keeper {
                 };
                 lend(w, room, &mut self.next, who, v, at)
             }
-            Call::Recall { .. } => Err(Refusal::NotBuilt),
+            Call::Recall { v } => recall(w, room, who, v),
             Call::End { .. } => Err(Refusal::NotBuilt),
         }
     }

@@ -23,7 +23,7 @@ use crate::frames::Taken;
 use crate::operations::write;
 use crate::refusals::Refusal;
 use crate::refusals::at_home;
-use crate::refusals::opened;
+use crate::refusals::open_by;
 use crate::refusals::own_page;
 use crate::refusals::untaken;
 use ledger::Loan;
@@ -78,7 +78,7 @@ fn lendable(
     let f = own_page(room, who, v)?;
     untaken(room, frames, d, p)?;
     at_home(room, frames, who, v, f)?;
-    opened(room, who, d)?;
+    open_by(room, who, d)?;
     Ok(f)
 }
 

@@ -125,9 +125,6 @@ pub fn shut(room: &[u64], d: u32) -> Result<(), Refusal>
     }
 }
 
-// `who` has device d open.
-pub fn open_by(room: &[u64], who: u32, d: u32) -> Result<(), Refusal>
-
 // No page is lent to d at p, or leaving it there: one that leaves may still be reached.
 pub fn untaken(room: &[u64], frames: u32, d: u32, p: u32) -> Result<(), Refusal>
     requires { ⌜ Consistent frames (now room) ⌝ ∗ ⌜ d < 32 ⌝ }
@@ -140,8 +137,8 @@ pub fn untaken(room: &[u64], frames: u32, d: u32, p: u32) -> Result<(), Refusal>
     }
 }
 
-// `who` has the device open.
-pub fn opened(room: &[u64], who: u32, d: u32) -> Result<(), Refusal>
+// `who` has device d open.
+pub fn open_by(room: &[u64], who: u32, d: u32) -> Result<(), Refusal>
     requires { ⌜ 65536 ≤ length (now room) ⌝ ∗ ⌜ d < 32 ⌝ }
     ensures { λ r. ⌜ Cases r (λ _. deviceOf (now (room .entry)) d ≡ Opened who) (λ e. (e ≡ Refusal.NotYours) × (deviceOf (now (room .entry)) d ≡ Opened who → ⊥)) ⌝ }
 {
@@ -159,10 +156,5 @@ pub fn program(c: u32) -> Result<(), Refusal>
         Ok(())
     } else {
         Err(Refusal::OutOfRange)
-    }
-}
-
-        Device::Opened(owner) if owner == who => Ok(()),
-        _ => Err(Refusal::NotYours),
     }
 }
