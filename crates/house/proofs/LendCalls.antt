@@ -1,11 +1,11 @@
 -- lend: when it is refused, and what it makes of the room and the machine, with a lower table that is there or with a new one.
 use mathlib.Core.Path.{_≡_, refl, sym, ap, subst, _∙_, fun-ext}
 use mathlib.Core.Bool.{Bool, true, false, cond, not, _&&_, _||_}
-use mathlib.Core.Logic.{_⊎_, inl, inr, ⊎-elim}
-use mathlib.Core.List.{List, [], _∷_}
-use Prim.Native.Nat.{ℕ, zero, suc, _+_, _-_, _*_, _/_, _%_, _<_, _≤_}
+use mathlib.Core.Logic.{⊎-elim}
+use mathlib.Core.List.{List, _∷_}
+use Prim.Native.Nat.{ℕ, suc, _+_, _-_, _/_, _%_, _<_, _≤_}
 use native.Mathlib.Omega.{arith}
-use lib.Dec.{T, eqb, ltb, leb, eqb→eq, T-not}
+use lib.Dec.{T, eqb, leb, eqb→eq}
 use Rattle.std.proofs.shelf.Tests.{lt-leb, le-leb, lt-ltb, cases-lt, cases-eq, eq-eqb, ne-eqb, eqb-true, and-parts, false≢true}
 use Rattle.ledger.specs.declared.Loan as loans
 use Rattle.ledger.specs.declared.Loan.the-variants as loan
@@ -20,7 +20,7 @@ use Rattle.ledger.specs.Uses as tests
 use Rattle.ledger.specs.Room.{useOf, placeOf, deviceOf, lowOf, topOf}
 use Rattle.ledger.specs.Words.{LoanFits}
 use Rattle.ledger.specs.Changes.{withLoan, lowerAt}
-use Rattle.ledger.specs.Consistent.{Coherent, Consistent, DeviceOk, LoanOk}
+use Rattle.ledger.specs.Consistent.{Coherent, Consistent, LoanOk}
 use Rattle.house.specs.declared.Call.the-variants.{Lend}
 use Rattle.house.specs.declared.Answer.the-variants.{Done, No}
 use Rattle.house.specs.declared.refusals.Refusal.{Refusal}
@@ -28,18 +28,18 @@ use Rattle.house.specs.declared.refusals.Refusal.the-variants.{OutOfRange, NoP
 use Rattle.house.specs.Event.{Event, Told}
 use Rattle.house.specs.Machine.{Hw, Steps, counted, withMem, put}
 use Rattle.house.specs.Meaning
-use Rattle.house.specs.Meaning.{State, Loan, Home, Lent, Use, TableOf, Idle, Of, Dev, Opened, has, taken, full, idle, isHome, isAt, isShut, openBy, loan, loanOf, frameOf, why, acts, Out, out, excused, takesFrame, useAt, setUse, setSlots, Quiet, Under, Over}
+use Rattle.house.specs.Meaning.{State, Loan, Home, Lent, Use, TableOf, Idle, Of, Dev, Opened, has, full, idle, isHome, isAt, isShut, openBy, loan, loanOf, why, acts, Out, out, excused, takesFrame, useAt, setUse, setSlots, Quiet, Under, Over}
 use Rattle.house.specs.Promise.{can, startOf}
 use Rattle.house.specs.Sound as sound
 use Rattle.house.specs.Sound.{viewOf, Tables, Sound, entryOf, isPage}
-use Rattle.house.specs.Kept.{Kept, KeptIn, tablesIn, useMeant, loanMeant, devMeant}
+use Rattle.house.specs.Kept.{Kept, tablesIn, useMeant, loanMeant, devMeant}
 use Rattle.house.specs.Lends.{Untaken, Lendable}
 use Rattle.house.specs.Operations.{Cleared}
 use Rattle.house.specs.Refusals.{numberOf, LendRefused}
 use Rattle.house.specs.Serving.{nothingCut, Holds, Keeps, Begins}
-use Rattle.house.proofs.Shelf.{is-true, is-false, from-true, from-false, left, right, pair, none-any, any-from, any-none, taken-one, taken-two, same-number}
+use Rattle.house.proofs.Shelf.{is-true, is-false, from-true, from-false, left, right, pair, none-any, any-from, any-none, same-number}
 use Rattle.house.proofs.Facts.{withUses, change-at, put-here, put-elsewhere, put-beside}
-use Rattle.house.proofs.Rooms.{Inside, inside-room, below, idle-frame, page-there, page-has, page-use, no-page, no-idle, loan-away}
+use Rattle.house.proofs.Rooms.{Inside, inside-room, below, idle-frame, page-has, page-use, no-page, no-idle, loan-away}
 use Rattle.house.proofs.Keeping.{kept-use, kept-low}
 use Rattle.house.proofs.PageWords.{words-put, words-page, words-none}
 use Rattle.house.proofs.Tables.{withLow, low-not-root, top-not-root}
@@ -303,17 +303,6 @@ lend-refused {room} {who} {u} {d} {p} {n} {m} {w} {h} {es} e q q2 b r =
     go NoFrame x = keeps-why 7 (lend-built u d p w) b (is-full (x .0 .0) (x .0 .1) (x .1) (x .2)) (omega arith)
     go NotPermitted x = absurd x
     go NotBuilt x = absurd x
-
--- what `write` and `set_loan` ask
-pub table-below : {room : List ℕ} {n : ℕ} (d j t : ℕ) → Consistent n room → lowOf room d j ≡ suc t → t < n
-table-below {room} {n} d j t c e = ⊎-elim (λ (l : t < n). l) (λ (g : n ≤ t). absurd (let y = c .coherent .lows d j t e in let x = inside-room n room t g in let z : _≡_ {A = ℕ} 0 1 = cc in omega arith)) (cases-lt t n)
-
-pub upper-below : {room : List ℕ} {n : ℕ} (d c : ℕ) → Consistent n room → ledger.viewOf n room .device d ≡ device.Opened c → topOf room d < n
-upper-below {room} {n} d c x e =
-    ⊎-elim
-    (λ (l : topOf room d < n). l)
-    (λ (g : n ≤ topOf room d). absurd (let y = subst (λ (z : Device). DeviceOk (ledger.viewOf n room .used) (topOf room) (lowOf room) d z) e (x .coherent .devices d) in let o = inside-room n room (topOf room d) g in let z : _≡_ {A = ℕ} 0 1 = cc in omega arith))
-    (cases-lt (topOf room d) n)
 
 alone-there : (d p e q : ℕ) (w : Bool) (x : loans.Loan) → tests.isAt e q (loan.Lent d p w) ≡ true → tests.isAt e q x ≡ true → tests.isAt d p x ≡ true
 alone-there d p e q w x a b =

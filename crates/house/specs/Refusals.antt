@@ -130,7 +130,7 @@ RecallRefused v c u NoFrame = ⊥
 RecallRefused v c u NotPermitted = ⊥
 RecallRefused v c u NotBuilt = ⊥
 
--- c lends its page at u to device d, one of m, at its page p
+-- c lends its page at u to device d, one of m, at its page p; v is what the room says of n frames
 abbrev pub LendRefused : ledger.View → ℕ → ℕ → ℕ → ℕ → ℕ → ℕ → Refusal → Type 0
 LendRefused v n m c u d p OutOfRange = u < 1024 → d < m → p < 262144 → ⊥
 LendRefused v n m c u d p NoPage = (u < 1024) × (d < m) × (p < 262144) × ((f : ℕ) → v .place c u ≡ place.Page f → ⊥)

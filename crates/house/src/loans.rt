@@ -1,6 +1,6 @@
 // lend: a page of a program is mapped for a device.
 ghost use mathlib.Core.Path.{_≡_};
-ghost use mathlib.Core.List.{List, _∷_};
+ghost use mathlib.Core.List.{_∷_};
 ghost use Prim.Native.Nat.{ℕ, suc, _+_, _*_, _/_, _%_, _<_, _≤_};
 ghost use lib.ListN.{length};
 ghost use Rattle.std.specs.Results.{Cases};
@@ -8,7 +8,6 @@ ghost use Rattle.ledger.specs.declared.Loan.the-variants.{Lent};
 ghost use Rattle.ledger.specs.declared.Use.the-variants.{Idle};
 ghost use Rattle.ledger.specs.Room.{useOf, lowOf};
 ghost use Rattle.ledger.specs.View.{viewOf};
-ghost use Rattle.ledger.specs.Changes.{withLoan};
 ghost use Rattle.ledger.specs.Consistent.{Consistent};
 ghost use Rattle.house.specs.Event.{Told};
 ghost use Rattle.house.specs.Lends.{Lendable, Tabled};
