@@ -2,9 +2,9 @@
 use Prim.Native.Nat.{ℕ}
 use lib.Dec.{T}
 use mathlib.Core.Path.{_≡_, sym, subst}
-use mathlib.Core.Bool.{not}
+use mathlib.Core.Bool.{Bool, not}
 use Rattle.house.specs.declared.Call.{Call}
-use Rattle.house.specs.declared.Call.the-variants.{Get, Free, Open, Recall, Give, Regs}
+use Rattle.house.specs.declared.Call.the-variants.{Get, Free, Open, Recall, Give, Regs, Lend}
 use Rattle.house.specs.Promise.{can}
 
 pub get-built : (v : ℕ) → T (can (Get v))
@@ -28,3 +28,6 @@ unbuilt e t = subst (λ (z : Call). T (not (can z))) (sym e) t
 
 pub recall-built : (v : ℕ) → T (can (Recall v))
 recall-built v = tt
+
+pub lend-built : (v d p : ℕ) (w : Bool) → T (can (Lend v d p w))
+lend-built v d p w = tt

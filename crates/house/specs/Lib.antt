@@ -14,3 +14,4 @@ pub mod Gone
 pub mod Words
 pub mod Rows
 pub mod Mappings
+pub mod Lends

@@ -14,6 +14,7 @@ ghost use Rattle.house.specs.Serving.{Keeps, Begins};
 mod devices;
 mod drains;
 mod frames;
+mod loans;
 mod operations;
 mod pages;
 mod recalls;
@@ -25,10 +26,12 @@ use devices::map_registers;
 use devices::open_device;
 use frames::clear;
 use ledger::setup::set_up;
+use loans::Mapping;
+use loans::lend;
 use pages::free;
 use pages::get;
-use recalls::recall;
 use pages::give;
+use recalls::recall;
 use refusals::Refusal;
 
 // the frame in which the device table is
@@ -198,7 +201,14 @@ impl Keeper {
             Call::Open { d } => open_device(w, room, &mut self.next, who, d),
             Call::Close { .. } => Err(Refusal::NotBuilt),
             Call::Regs { d, v } => map_registers(w, room, who, d, v),
-            Call::Lend { .. } => Err(Refusal::NotBuilt),
+            Call::Lend { v, d, p, writes } => {
+                let at = Mapping {
+                    device: d,
+                    page: p,
+                    writes,
+                };
+                lend(w, room, &mut self.next, who, v, at)
+            }
             Call::Recall { v } => recall(w, room, who, v),
             Call::End { .. } => Err(Refusal::NotBuilt),
         }
