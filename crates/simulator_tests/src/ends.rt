@@ -4,9 +4,11 @@ use script::Line;
 use script::Outcome;
 use simulator::ends::Item;
 use simulator::ends::Script;
+use simulator::lent::UnfitDebug;
 use simulator::plays::play_on;
 use simulator::rows::Device;
 use simulator::rows::Note;
+use std::test::Note as _;
 use std::test::*;
 
 const DEVICES: [Device; 1] = [Device {
@@ -15,6 +17,7 @@ const DEVICES: [Device; 1] = [Device {
 }];
 
 // So many loads, then `new`, then five more.
+#[derive(Drop)]
 struct Loads {
     left: u32,
     faults: u32,
