@@ -3,13 +3,14 @@
 use mathlib.Core.Path.{_≡_}
 use mathlib.Core.Logic.{_⊎_}
 use mathlib.Core.Bool.{Bool, true, false, not}
-use mathlib.Core.List.{List, _∷_}
+use mathlib.Core.List.{List, _∷_, List·Memᴰ}
 use Prim.Native.Nat.{ℕ, _<_}
 use lib.Dec.{T}
 use Rattle.std.specs.declared.option.Option.{Option}
 use Rattle.std.specs.declared.option.Option.the-variants.{Some, None}
 use Rattle.house.specs.Event.{TookFrom, PutInto, Missed}
 use Rattle.house.specs.Machine.{withMem, put, frameIn, mayWrite, walked}
+use Rattle.simulator.specs.Lists.{deviceIn, placeIn}
 use Rattle.simulator.specs.Store.{memOf}
 use Rattle.simulator.specs.Parts.{Parts, hwOf, seenOf}
 
@@ -32,3 +33,7 @@ abbrev pub MissedAt : Parts → ℕ → ℕ → Bool → Bool → Parts → Type
 MissedAt p d g w false q = Same p q
 MissedAt p d g w true q =
     ((walked (hwOf p) d g ≡ 0) ⊎ (T w × T (not (mayWrite (walked (hwOf p) d g))))) × (hwOf q ≡ hwOf p) × (seenOf q ≡ Missed d g w ∷ seenOf p)
+
+-- page g of device d is kept
+abbrev pub KeepsPage : ℕ → ℕ → Parts → Type 0
+KeepsPage d g p = (w : ℕ) × List·Memᴰ w (p .leaves) × (deviceIn w ≡ d) × (placeIn w ≡ g)

@@ -8,3 +8,4 @@ pub mod Effects
 pub mod Heard
 pub mod Turns
 pub mod Fit
+pub mod Draws

@@ -1,5 +1,6 @@
 // Calls: a program asks, and is told.
 ghost use mathlib.Core.Path.{_≡_};
+ghost use mathlib.Core.Bool.{true};
 ghost use mathlib.Core.List.{_∷_};
 ghost use Prim.Native.Nat.{_+_, _<_, _≤_};
 ghost use lib.ListN.{length};
@@ -51,6 +52,22 @@ impl<'a> Board<'a> {
         self.log.add(Note::told(who, c, a));
     }
 
+    // The next `n` drains say no, whatever was told before.
+    fn refuse_next(&mut self, n: u64)
+        ensures parts { λ _. ⌜ partsOf (now (self .exit)) ≡ partsOf (now (self .entry)) ⌝ }
+        ensures refusals { λ _. ⌜ now (self .exit) .refusals ≡ n ⌝ }
+    {
+        self.refusals = n;
+    }
+
+    // Tricks are chosen by a seed from now on.
+    fn sow(&mut self, seed: u64)
+        ensures parts { λ _. ⌜ partsOf (now (self .exit)) ≡ partsOf (now (self .entry)) ⌝ }
+        ensures dice { λ _. ⌜ now (self .exit) .dice .seeded ≡ true ⌝ ∗ ⌜ now (self .exit) .dice .state ≡ seed ⌝ }
+    {
+        self.dice = Dice::from_seed(seed);
+    }
+
     // What becomes of a line. Nothing any more once there is no room for a call.
     pub fn answer(&mut self, line: Line) -> Reply
         ensures { λ r. ⌜ Replied line (partsOf (now (self .entry))) r (partsOf (now (self .exit))) ⌝ }
@@ -67,11 +84,11 @@ impl<'a> Board<'a> {
             Line::Keep { d, p } => Reply::Says(self.keep(d, p)),
             Line::Kept { d, p, word, x } => Reply::Says(self.write_kept(d, p, word, x)),
             Line::Refuse { n } => {
-                self.refusals = n;
+                self.refuse_next(n);
                 Reply::Quiet
             }
             Line::Seed { s } => {
-                self.dice = Dice::from_seed(s);
+                self.sow(s);
                 Reply::Quiet
             }
             Line::New => Reply::Quiet,

@@ -1,7 +1,8 @@
 // Drains: when the unit forgets a device, and what it says of that.
 ghost use mathlib.Core.Path.{_≡_};
+ghost use mathlib.Core.Bool.{true, false};
 ghost use mathlib.Core.List.{_∷_};
-ghost use Prim.Native.Nat.{_+_, _<_, _≤_};
+ghost use Prim.Native.Nat.{_-_, _<_};
 ghost use Rattle.house.specs.Event.{Drained};
 ghost use Rattle.house.specs.Machine.{counted, Drains, Forgotten};
 ghost use Rattle.simulator.specs.Parts.{hwOf, seenOf, Goes};
@@ -12,7 +13,9 @@ use crate::rows::Note;
 impl<'a> Board<'a> {
     // Says no as often as it was told to, and with a seed one time in four by itself.
     fn refuses(&mut self) -> bool
-        ensures { λ _. ⌜ partsOf (now (self .exit)) ≡ partsOf (now (self .entry)) ⌝ }
+        ensures parts { λ _. ⌜ partsOf (now (self .exit)) ≡ partsOf (now (self .entry)) ⌝ }
+        ensures told { λ r. ⌜ (0 < now (self .entry) .refusals → r ≡ true) ⌝ ∗ ⌜ (now (self .entry) .refusals ≡ 0 → now (self .entry) .dice .seeded ≡ false → r ≡ false) ⌝ }
+        ensures left { λ _. ⌜ now (self .exit) .refusals ≡ now (self .entry) .refusals - 1 ⌝ }
     {
         if self.refusals > 0 {
             self.refusals -= 1;

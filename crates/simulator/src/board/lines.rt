@@ -5,6 +5,8 @@ ghost use Rattle.script.specs.declared.forms.Line.the-variants.{Read, Write, Ke
 ghost use Rattle.simulator.specs.Parts.{seenOf, Ran};
 ghost use Rattle.simulator.specs.Heard.{Heard};
 ghost use Rattle.simulator.specs.View.{partsOf};
+ghost use Rattle.simulator.specs.Effects.{KeepsPage};
+ghost use Rattle.script.specs.declared.outcomes.Outcome.the-variants.{Kept as KeptSaid};
 use super::Board;
 use crate::lists::PLACE;
 use crate::lists::word_of;
@@ -53,6 +55,7 @@ impl<'a> Board<'a> {
     pub fn keep(&mut self, d: u32, p: u32) -> Outcome
         ensures ran { λ _. ⌜ Ran (partsOf (now (self .entry))) (partsOf (now (self .exit))) ⌝ }
         ensures heard { λ r. ⌜ Heard (seenOf (partsOf (now (self .entry)))) (Keep d p) r (seenOf (partsOf (now (self .exit)))) ⌝ }
+        ensures kept { λ r. ⌜ (r ≡ KeptSaid → KeepsPage d p (partsOf (now (self .exit)))) ⌝ }
     {
         if d as usize >= self.devices.len() || p > 262143 {
             return Outcome::No(1);

@@ -1,7 +1,8 @@
 // A machine as at the start.
 ghost use mathlib.Core.Path.{_≡_};
+ghost use mathlib.Core.Bool.{false};
 ghost use mathlib.Core.List.{[]};
-ghost use Prim.Native.Nat.{ℕ, _+_, _/_, _<_, _≤_};
+ghost use Prim.Native.Nat.{ℕ, _*_, _/_, _<_, _≤_};
 ghost use lib.ListN.{length, getD};
 ghost use Rattle.house.specs.Machine.{AtStart};
 ghost use Rattle.simulator.specs.Fit.{Fit};
@@ -21,6 +22,9 @@ impl<'a> Board<'a> {
         requires { ⌜ Fit (length (now (lent .memory))) (length (now (lent .spaces))) (now devices) (length (now (lent .log))) ⌝ }
         ensures hw { λ r. ⌜ AtStart (hwOf (partsOf r)) ⌝ }
         ensures frames { λ r. ⌜ partsOf r .frames ≡ length (now (lent .entry .memory)) / 512 ⌝ }
+        ensures rows { λ r. ⌜ partsOf r .devices ≡ now (devices .entry) ⌝ }
+        ensures quiet { λ r. ⌜ r .dice .seeded ≡ false ⌝ ∗ ⌜ r .refusals ≡ 0 ⌝ }
+        ensures filled { λ r. ⌜ ((k : ℕ) → k < 512 * partsOf r .frames → 0 < getD (partsOf r .mem) k 0) ⌝ }
         ensures seen { λ r. ⌜ seenOf (partsOf r) ≡ [] ⌝ }
     {
         let Lent {

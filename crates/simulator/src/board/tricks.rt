@@ -1,5 +1,6 @@
 // What the unit and devices do by themselves, chosen by the seed.
 ghost use mathlib.Core.Path.{_≡_};
+ghost use mathlib.Core.Bool.{false};
 ghost use Prim.Native.Nat.{_+_, _*_, _<_, _≤_};
 ghost use Rattle.simulator.specs.Parts.{Goes};
 ghost use Rattle.simulator.specs.View.{partsOf};
@@ -11,7 +12,8 @@ use crate::lists::word_of;
 impl<'a> Board<'a> {
     // With a seed up to three tricks, without one none.
     pub fn play(&mut self)
-        ensures { λ _. ⌜ Goes (partsOf (now (self .entry))) (partsOf (now (self .exit))) ⌝ }
+        ensures goes { λ _. ⌜ Goes (partsOf (now (self .entry))) (partsOf (now (self .exit))) ⌝ }
+        ensures quiet { λ _. ⌜ (now (self .entry) .dice .seeded ≡ false → partsOf (now (self .exit)) ≡ partsOf (now (self .entry))) ⌝ }
     {
         if self.dice.is_seeded() {
             let n = self.dice.below(4);

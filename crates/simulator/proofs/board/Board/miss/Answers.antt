@@ -9,4 +9,4 @@ returns-then-n-eq0 c = none _ _
 
 pub returns : need.returns
 returns c =
-    miss-goes (partsOf (c .args .self .now)) (partsOf (c .miss-at .last .self)) (c .below-d .result) (c .below-p .result) _ (c .miss-at .result) (c .below-d .ensures) (c .below-p .ensures) (c .miss-at .ensures)
+    miss-goes (partsOf (c .args .self .now)) (partsOf (c .miss-at .last .self)) (c .below-d .result) (c .below-p .result) _ (c .miss-at .result) (c .below-d .ensures .bound) (c .below-p .ensures .bound) (c .miss-at .ensures)

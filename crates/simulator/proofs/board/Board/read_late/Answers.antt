@@ -8,4 +8,4 @@ pub returns-then-n-eq0 : need.returns-then-n-eq0
 returns-then-n-eq0 c = none _ _
 
 pub returns : need.returns
-returns c = take-goes (partsOf (c .args .self .now)) (partsOf (c .take-at .last .self)) (c .at-l .result) (c .below-k .result) (c .take-at .result) (c .at-l .ensures) (c .below-k .ensures) (c .take-at .ensures)
+returns c = take-goes (partsOf (c .args .self .now)) (partsOf (c .take-at .last .self)) (c .at-l .result) (c .below-k .result) (c .take-at .result) (c .at-l .ensures) (c .below-k .ensures .bound) (c .take-at .ensures)

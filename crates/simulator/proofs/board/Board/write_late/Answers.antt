@@ -9,4 +9,4 @@ returns-then-n-eq0 c = none _ _
 
 pub returns : need.returns
 returns c =
-    put-by-goes (partsOf (c .args .self .now)) (partsOf (c .put-at .last .self)) (c .at-l .result) (c .below-k .result) (c .word-x .result) (c .put-at .result) (c .at-l .ensures) (c .below-k .ensures) (c .word-x .ok) (c .put-at .ensures)
+    put-by-goes (partsOf (c .args .self .now)) (partsOf (c .put-at .last .self)) (c .at-l .result) (c .below-k .result) (c .word-x .result) (c .put-at .result) (c .at-l .ensures) (c .below-k .ensures .bound) (c .word-x .ok) (c .put-at .ensures)

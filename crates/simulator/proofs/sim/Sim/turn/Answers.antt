@@ -4,22 +4,22 @@ use Rattle.simulator.proofs.Lines.{steps-run, runs-then, ran-comes, same-ran}
 use Rattle.simulator.proofs.sim.Sim.turn.Needs as need
 
 pub returns-in-Line-New : need.returns-in-Line-New
-returns-in-Line-New g c = steps-run (c .play .ensures) (rest _ _)
+returns-in-Line-New g c = steps-run (c .play .ensures .goes) (rest _ _)
 
 pub returns-in-Says : need.returns-in-Says
-returns-in-Says g c = steps-run (c .play .ensures) (c .in-Says .ensures tt .board .0)
+returns-in-Says g c = steps-run (c .play .ensures .goes) (c .in-Says .ensures tt .board .0)
 
 pub returns-in-Quiet : need.returns-in-Quiet
-returns-in-Quiet g c = steps-run (c .play .ensures) (same-ran (partsOf (c .play .last .self)) (partsOf (c .play-line .last .self .board .now)) (c .in-Quiet .ensures tt .board))
+returns-in-Quiet g c = steps-run (c .play .ensures .goes) (same-ran (partsOf (c .play .last .self)) (partsOf (c .play-line .last .self .board .now)) (c .in-Quiet .ensures tt .board))
 
 pub returns-in-Asks : need.returns-in-Asks
-returns-in-Asks g c = ran-comes (steps-run (c .play .ensures) (rest _ _)) (c .in-Asks .ensures tt .board .0)
+returns-in-Asks g c = ran-comes (steps-run (c .play .ensures .goes) (rest _ _)) (c .in-Asks .ensures tt .board .0)
 
 pub returns-in-Full : need.returns-in-Full
-returns-in-Full g c = steps-run (c .play .ensures) (same-ran (partsOf (c .play .last .self)) (partsOf (c .play-line .last .self .board .now)) (c .in-Full .ensures tt .board))
+returns-in-Full g c = steps-run (c .play .ensures .goes) (same-ran (partsOf (c .play .last .self)) (partsOf (c .play-line .last .self .board .now)) (c .in-Full .ensures tt .board))
 
 pub returns-in-Bad : need.returns-in-Bad
-returns-in-Bad g c = steps-run (c .play .ensures) (rest _ _)
+returns-in-Bad g c = steps-run (c .play .ensures .goes) (rest _ _)
 
 pub returns-in-End : need.returns-in-End
-returns-in-End g c = steps-run (c .play .ensures) (rest _ _)
+returns-in-End g c = steps-run (c .play .ensures .goes) (rest _ _)
