@@ -7,7 +7,7 @@ use Rattle.ledger.specs.declared.Loan.the-variants.{Home}
 use Rattle.ledger.specs.declared.Which.the-variants.{Upper, Lower}
 use Rattle.ledger.specs.declared.Use.{Use}
 use Rattle.ledger.specs.declared.Use.the-variants.{House, TableOf, Idle, PageOf}
-use Rattle.ledger.specs.declared.Place.the-variants.{Nothing, Page, Registers}
+use Rattle.ledger.specs.declared.Place.the-variants.{Nothing, Page}
 use Rattle.ledger.specs.declared.Device.the-variants.{Shut, Opened, Closing}
 use Rattle.ledger.specs.View.{View, withUse, withPlace, withDevice, withTop, withLow}
 use Rattle.ledger.specs.Uses.{mapLoan, leavingFrom, homeFrom, noTable, noLower, noLowers, noPage, notOf, notBelow, noRegisters}

@@ -1,6 +1,6 @@
 // What each frame is used for.
 ghost use mathlib.Core.Path.{_≡_};
-ghost use Prim.Native.Nat.{ℕ, _+_, _*_, _<_, _≤_};
+ghost use Prim.Native.Nat.{ℕ, _+_, _*_, _<_};
 ghost use lib.ListN.{length};
 ghost use Rattle.ledger.specs.Words.{UseFits};
 ghost use Rattle.ledger.specs.Room.{useOf};
