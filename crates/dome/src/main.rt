@@ -1,56 +1,46 @@
-// Plays a script from standard input. Nothing is built yet that could play it, and each line is answered so.
-ghost use mathlib.Core.Path.{_≡_};
-ghost use Rattle.dome.specs.Said.{saidOf};
-use script::Line;
+// Plays a script from standard input on machines in memory, and prints what came of each line.
+mod console;
+
+use console::Console;
+use console::ConsoleScript;
 use script::Lines;
-use script::Outcome;
-use script::read_line;
+use simulator::plays::play_on;
+use simulator::rows::Device;
+use simulator::rows::Note;
 use std::io;
 use std::io::BufReader;
 use std::io::BufWriter;
-use std::io::Read;
-use std::io::Write;
+use std::io::ErrorKind;
 
-// Programs are numbered from 0.
-const PROGRAMS: u32 = 32;
+const FRAMES: usize = 64;
+
+// Program 1 may open devices 0 and 1, which are in one group, program 2 device 2. Device 3 is in a group of its own, and program 31's.
+const DEVICES: [Device; 4] = [
+    Device { group: 0, driver: 1 },
+    Device { group: 0, driver: 1 },
+    Device { group: 1, driver: 2 },
+    Device { group: 2, driver: 31 },
+];
+
+// 50,000 rows of four words.
+const EVENTS: usize = 50_000;
 
 fn main(rt: LibcRuntime) -> io::Result<()> {
-    let mut lines = Lines::new(BufReader::new(rt.stdin()));
-    let mut out = BufWriter::new(rt.stdout());
-    play(&mut lines, &mut out)
-}
-
-fn play<R: Read, W: Write>(lines: &mut Lines<R>, out: &mut W) -> io::Result<()> {
+    let mut memory = [0; 512 * FRAMES];
+    let mut spaces = [0; 32 * 1024];
+    let mut ups = [0; FRAMES];
+    let mut mids = [0; FRAMES];
+    let mut leaves = [0; FRAMES];
+    let mut flying = [0; FRAMES];
+    let mut log = [Note::BLANK; EVENTS];
+    let mut room = [0; 65536 + 2 * FRAMES];
+    let mut console = Console::new(Lines::new(BufReader::new(rt.stdin())), BufWriter::new(rt.stdout()));
     for _ in 0..u64::MAX {
-        let Some(number) = lines.advance()? else {
-            break;
-        };
-        let said = match read_line(lines.line()) {
-            Some(line) => answer(line),
-            None => Some(Outcome::BadLine(number)),
-        };
-        if let Some(outcome) = said {
-            print(outcome, out)?;
+        match play_on(&mut memory, &mut spaces, &mut ups, &mut mids, &mut leaves, &mut flying, &mut log, &DEVICES, &mut room, &mut console) {
+            Ok(true) => {}
+            Ok(false) => break,
+            Err(_) => return Err(io::Error::from(ErrorKind::InvalidInput)),
         }
     }
-    out.flush()
-}
-
-fn print<W: Write>(outcome: Outcome, out: &mut W) -> io::Result<()> {
-    let mut text = [0; 32];
-    let len = outcome.write(&mut text);
-    out.write_all(&text[0..len])?;
-    out.write_all(b"\n")
-}
-
-// What is said of a line, if anything is.
-fn answer(line: Line) -> Option<Outcome>
-    ensures { λ r. ⌜ r ≡ saidOf line ⌝ }
-{
-    match line {
-        Line::Call { who, .. } if who < PROGRAMS => Some(Outcome::No(9)),
-        Line::Call { .. } => Some(Outcome::No(1)),
-        Line::Refuse { .. } | Line::Seed { .. } | Line::New => None,
-        _ => Some(Outcome::NotYet),
-    }
+    console.finish()
 }
