@@ -101,10 +101,10 @@ noBelow d k (PageOf c v l) = PageOf c v l
 abbrev pub lowersBelow : ℕ → ℕ → View → View
 lowersBelow d k s = record { used = λ f. noBelow d k (s .used f); place = s .place; device = s .device; top = s .top; low = λ e i. cond (eqb e d && ltb i k) 0 (s .low e i) }
 
-below-zero : {A : Type 0} (e d j : ℕ) (x y : A) → y ≡ cond (eqb e d && ltb j 0) x y
+pub below-zero : {A : Type 0} (e d j : ℕ) (x y : A) → y ≡ cond (eqb e d && ltb j 0) x y
 below-zero e d j x y = cond-both (eqb e d && ltb j 0) x y (λ z. y ≡ z) (λ q. absurd (let l = ltb-true j 0 (and-parts (eqb e d) (ltb j 0) q .1) in omega arith)) (λ _. refl)
 
-below-more : {A : Type 0} (e d j k : ℕ) (x y : A) → cond (eqb e d && eqb j k) x (cond (eqb e d && ltb j k) x y) ≡ cond (eqb e d && ltb j (k + 1)) x y
+pub below-more : {A : Type 0} (e d j k : ℕ) (x y : A) → cond (eqb e d && eqb j k) x (cond (eqb e d && ltb j k) x y) ≡ cond (eqb e d && ltb j (k + 1)) x y
 below-more e d j k x y = go (cases-eq e d) (cases-lt j k) (cases-eq j k)
   where
     go : (e ≡ d) ⊎ (e ≡ d → ⊥) → (j < k) ⊎ (k ≤ j) → (j ≡ k) ⊎ (j ≡ k → ⊥) → cond (eqb e d && eqb j k) x (cond (eqb e d && ltb j k) x y) ≡ cond (eqb e d && ltb j (k + 1)) x y

@@ -222,7 +222,7 @@ upper s K d = go (s .device d) (K .devices d)
     go (Opened c) h e = h
     go (Closing c) h e = h
 
-at-with : (d e p : ℕ) (l : Loan) → e ≡ d → isAt e p l ≡ true → isWith d l ≡ true
+pub at-with : (d e p : ℕ) (l : Loan) → e ≡ d → isAt e p l ≡ true → isWith d l ≡ true
 at-with d e p Home q h = absurd (false≢true h)
 at-with d e p (Lent a b w) q h = let t = and-parts (eqb e a) (eqb p b) h .0 in rw q at t
 at-with d e p (Leaving a b w) q h = let t = and-parts (eqb e a) (eqb p b) h .0 in rw q at t

@@ -6,3 +6,5 @@ pub mod Laws
 pub mod Operations
 pub mod Swept
 pub mod Closed
+pub mod Searched
+pub mod Emptied

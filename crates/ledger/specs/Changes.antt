@@ -1,7 +1,7 @@
 -- What the operations make of a room's view.
 use mathlib.Core.Bool.{cond, _&&_}
 use Prim.Native.Nat.{ℕ, suc}
-use lib.Dec.{eqb}
+use lib.Dec.{eqb, ltb}
 use Rattle.ledger.specs.declared.Loan.{Loan}
 use Rattle.ledger.specs.declared.Loan.the-variants.{Home}
 use Rattle.ledger.specs.declared.Which.the-variants.{Upper, Lower}
@@ -10,7 +10,7 @@ use Rattle.ledger.specs.declared.Use.the-variants.{House, TableOf, Idle, PageO
 use Rattle.ledger.specs.declared.Place.the-variants.{Nothing, Page, Registers}
 use Rattle.ledger.specs.declared.Device.the-variants.{Shut, Opened, Closing}
 use Rattle.ledger.specs.View.{View, withUse, withPlace, withDevice, withTop, withLow}
-use Rattle.ledger.specs.Uses.{mapLoan, leavingFrom, homeFrom, noTable, noLower, noLowers, noPage, notOf, noRegisters}
+use Rattle.ledger.specs.Uses.{mapLoan, leavingFrom, homeFrom, noTable, noLower, noLowers, noPage, notOf, notBelow, noRegisters}
 
 -- frame 0 the house's, every other idle, nothing shown, every device shut, no table
 abbrev pub empty : View
@@ -76,3 +76,13 @@ unregistered c v d s = withPlace c v (noRegisters d (s .place c v)) s
 -- the registers of d are shown nowhere
 abbrev pub withoutRegisters : ℕ → View → View
 withoutRegisters d s = record { used = s .used; place = λ a b. noRegisters d (s .place a b); device = s .device; top = s .top; low = s .low }
+
+-- the places of c below k show no registers of d
+abbrev pub hiddenBelow : ℕ → ℕ → ℕ → View → View
+hiddenBelow c d k s =
+    record { used = s .used; place = λ a b. cond (eqb a c && ltb b k) (noRegisters d (s .place a b)) (s .place a b); device = s .device; top = s .top; low = s .low }
+
+-- the places of c below k show nothing, and the pages that stood there are idle
+abbrev pub endedBelow : ℕ → ℕ → View → View
+endedBelow c k s =
+    record { used = λ f. notBelow c k (s .used f); place = λ a b. cond (eqb a c && ltb b k) Nothing (s .place a b); device = s .device; top = s .top; low = s .low }

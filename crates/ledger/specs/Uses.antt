@@ -1,7 +1,7 @@
 -- Tests of uses, loans and devices, and what becomes of them.
-use mathlib.Core.Bool.{Bool, true, false, cond, _&&_}
+use mathlib.Core.Bool.{Bool, true, false, cond, _&&_, not}
 use Prim.Native.Nat.{ℕ}
-use lib.Dec.{eqb}
+use lib.Dec.{eqb, ltb}
 use Rattle.ledger.specs.declared.Loan.{Loan}
 use Rattle.ledger.specs.declared.Loan.the-variants.{Home, Lent, Leaving}
 use Rattle.ledger.specs.declared.Which.{Which}
@@ -60,6 +60,10 @@ abbrev pub ownerIs : ℕ → Device → Bool
 ownerIs c Shut = false
 ownerIs c (Opened w) = eqb c w
 ownerIs c (Closing w) = eqb c w
+
+-- a program other than c has it, open or closing
+abbrev pub heldByOther : ℕ → Device → Bool
+heldByOther c x = not (isShut x) && not (ownerIs c x)
 
 -- what is lent to d is leaving it
 abbrev pub leavingFrom : ℕ → Loan → Loan
@@ -121,6 +125,13 @@ noPage c v (TableOf d w) = TableOf d w
 noPage c v Idle = Idle
 noPage c v (PageOf a b l) = cond (eqb a c && eqb b v) Idle (PageOf a b l)
 
+-- the pages of c at places below k are idle
+abbrev pub notBelow : ℕ → ℕ → Use → Use
+notBelow c k House = House
+notBelow c k (TableOf d w) = TableOf d w
+notBelow c k Idle = Idle
+notBelow c k (PageOf a b l) = cond (eqb a c && ltb b k) Idle (PageOf a b l)
+
 -- the pages of c are idle
 abbrev pub notOf : ℕ → Use → Use
 notOf c House = House
@@ -143,3 +154,9 @@ abbrev pub noRegisters : ℕ → Place → Place
 noRegisters d Nothing = Nothing
 noRegisters d (Page f) = Page f
 noRegisters d (Registers e) = cond (eqb e d) Nothing (Registers e)
+
+-- the loan of the page that a place shows
+abbrev pub loanShown : (ℕ → Use) → Place → Loan
+loanShown used Nothing = Home
+loanShown used (Page f) = loanIn (used f)
+loanShown used (Registers d) = Home
