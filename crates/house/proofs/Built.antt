@@ -4,7 +4,7 @@ use lib.Dec.{T}
 use mathlib.Core.Path.{_≡_, sym, subst}
 use mathlib.Core.Bool.{not}
 use Rattle.house.specs.declared.Call.{Call}
-use Rattle.house.specs.declared.Call.the-variants.{Get, Free}
+use Rattle.house.specs.declared.Call.the-variants.{Get, Free, Close}
 use Rattle.house.specs.Promise.{can}
 
 pub get-built : (v : ℕ) → T (can (Get v))
@@ -16,3 +16,6 @@ free-built v = tt
 -- a call that is known to be one that is not built
 pub unbuilt : {c k : Call} → c ≡ k → T (not (can k)) → T (not (can c))
 unbuilt e t = subst (λ (z : Call). T (not (can z))) (sym e) t
+
+pub close-built : (d : ℕ) → T (can (Close d))
+close-built d = tt

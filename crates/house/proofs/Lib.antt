@@ -20,3 +20,7 @@ pub mod Starting
 pub mod Steps
 pub mod Tables
 pub mod Uses
+pub mod Cutting
+pub mod Hiding
+pub mod Closed
+pub mod Closes

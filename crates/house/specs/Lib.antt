@@ -7,3 +7,5 @@ pub mod Serving
 pub mod Kept
 pub mod Operations
 pub mod Refusals
+pub mod Unmapping
+pub mod Closures

@@ -1,6 +1,7 @@
 -- The numbers of refusals, and what each says of the room when a call is refused by it: the first that applies.
 -- Nothing is assumed here.
 use mathlib.Core.Path.{_≡_}
+use mathlib.Core.Bool.{true, false}
 use Prim.Native.Nat.{ℕ, _<_, _≤_}
 use Rattle.std.specs.declared.result.Result.{Result}
 use Rattle.std.specs.declared.result.Result.the-variants.{Ok, Err}
@@ -8,7 +9,7 @@ use Rattle.ledger.specs.declared.Loan.the-variants as loan
 use Rattle.ledger.specs.declared.Use.the-variants as used
 use Rattle.ledger.specs.declared.Place.the-variants as place
 use Rattle.ledger.specs.View as ledger
-use Rattle.ledger.specs.Uses.{loanIn}
+use Rattle.ledger.specs.Uses.{loanIn, ownerIs}
 use Rattle.house.specs.declared.Answer.{Answer}
 use Rattle.house.specs.declared.Answer.the-variants.{Done, Later, No}
 use Rattle.house.specs.declared.refusals.Refusal.{Refusal}
@@ -68,3 +69,15 @@ FreeRefused v c u Held = ⊥
 FreeRefused v c u NoFrame = ⊥
 FreeRefused v c u NotPermitted = ⊥
 FreeRefused v c u NotBuilt = ⊥
+
+-- c closes device d; the machine has n devices
+abbrev pub CloseRefused : ledger.View → ℕ → ℕ → ℕ → Refusal → Type 0
+CloseRefused v n c d OutOfRange = n ≤ d
+CloseRefused v n c d NoPage = ⊥
+CloseRefused v n c d Occupied = ⊥
+CloseRefused v n c d WrongLoan = ⊥
+CloseRefused v n c d NotYours = (d < n) × (ownerIs c (v .device d) ≡ false)
+CloseRefused v n c d Held = ⊥
+CloseRefused v n c d NoFrame = ⊥
+CloseRefused v n c d NotPermitted = ⊥
+CloseRefused v n c d NotBuilt = ⊥

@@ -11,12 +11,14 @@ ghost use Rattle.house.specs.Promise.{can, roomOf, startOf};
 ghost use Rattle.house.specs.Refusals.{answerOf, IfRefused, IfNo, NeverNo};
 ghost use Rattle.house.specs.Serving.{Keeps, Begins};
 
+mod closing;
 mod drains;
 mod frames;
 mod operations;
 mod pages;
 mod refusals;
 
+use closing::close;
 use frames::clear;
 use ledger::setup::set_up;
 use pages::free;
@@ -188,7 +190,7 @@ impl Keeper {
             Call::Free { v } => free(w, room, who, v),
             Call::Give { .. } => Err(Refusal::NotBuilt),
             Call::Open { .. } => Err(Refusal::NotBuilt),
-            Call::Close { .. } => Err(Refusal::NotBuilt),
+            Call::Close { d } => close(w, room, who, d),
             Call::Regs { .. } => Err(Refusal::NotBuilt),
             Call::Lend { .. } => Err(Refusal::NotBuilt),
             Call::Recall { .. } => Err(Refusal::NotBuilt),

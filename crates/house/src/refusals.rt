@@ -1,19 +1,22 @@
 // Why a call is refused: the reasons, their numbers, and the tests that several calls share.
 ghost use mathlib.Core.Path.{_≡_};
+ghost use mathlib.Core.Bool.{true, false};
 ghost use Prim.Native.Nat.{ℕ, _+_, _*_, _<_, _≤_};
 ghost use lib.ListN.{length};
 ghost use Rattle.std.specs.Results.{Cases};
-ghost use Rattle.ledger.specs.Room.{placeOf};
+ghost use Rattle.ledger.specs.Room.{placeOf, deviceOf};
 ghost use Rattle.ledger.specs.declared.Place.the-variants.{Nothing, Page};
 ghost use Rattle.ledger.specs.declared.Loan.the-variants.{Home};
 ghost use Rattle.ledger.specs.declared.Use.the-variants.{PageOf};
 ghost use Rattle.ledger.specs.View.{viewOf};
-ghost use Rattle.ledger.specs.Uses.{loanIn};
+ghost use Rattle.ledger.specs.Uses.{loanIn, ownerIs};
 ghost use Rattle.ledger.specs.Consistent.{Consistent};
 ghost use Rattle.house.specs.Refusals.{numberOf};
+use ledger::Device;
 use ledger::Loan;
 use ledger::Place;
 use ledger::Use;
+use ledger::devices::device_at;
 use ledger::frames::use_at;
 use ledger::places::place_at;
 
@@ -95,4 +98,28 @@ pub fn at_home(room: &[u64], frames: u32, who: u32, v: u32, f: u32) -> Result<()
         } => Ok(()),
         _ => Err(Refusal::WrongLoan),
     }
+}
+
+// A device that the machine has.
+pub fn known_device(devices: u32, d: u32) -> Result<(), Refusal>
+    ensures { λ r. ⌜ Cases r (λ _. d < devices) (λ e. (e ≡ Refusal.OutOfRange) × (devices ≤ d)) ⌝ }
+{
+    if d < devices {
+        Ok(())
+    } else {
+        Err(Refusal::OutOfRange)
+    }
+}
+
+// `who` has the device, open or closing.
+pub fn held(room: &[u64], who: u32, d: u32) -> Result<(), Refusal>
+    requires { ⌜ 65536 ≤ length (now room) ⌝ ∗ ⌜ d < 32 ⌝ }
+    ensures { λ r. ⌜ Cases r (λ _. ownerIs who (deviceOf (now (room .entry)) d) ≡ true) (λ e. (e ≡ Refusal.NotYours) × (ownerIs who (deviceOf (now (room .entry)) d) ≡ false)) ⌝ }
+{
+    let held = match device_at(room, d) {
+        Device::Shut => false,
+        Device::Opened(by) => who == by,
+        Device::Closing(by) => who == by,
+    };
+    if held { Ok(()) } else { Err(Refusal::NotYours) }
 }

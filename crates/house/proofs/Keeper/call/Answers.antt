@@ -9,9 +9,6 @@ returns-in-Give g c = record { told = keeps-unbuilt (unbuilt (c .in-Give .is) tt
 pub returns-in-Open : need.returns-in-Open
 returns-in-Open g c = record { told = keeps-unbuilt (unbuilt (c .in-Open .is) tt) (c .pre .begins); refused = (refl, refl, refl, refl); accepted = tt }
 
-pub returns-in-Close : need.returns-in-Close
-returns-in-Close g c = record { told = keeps-unbuilt (unbuilt (c .in-Close .is) tt) (c .pre .begins); refused = (refl, refl, refl, refl); accepted = tt }
-
 pub returns-in-Regs : need.returns-in-Regs
 returns-in-Regs g c = record { told = keeps-unbuilt (unbuilt (c .in-Regs .is) tt) (c .pre .begins); refused = (refl, refl, refl, refl); accepted = tt }
 
