@@ -48,7 +48,7 @@ use Rattle.house.proofs.Steps.{steps-same, drain-split}
 use Rattle.house.proofs.Between.{holds-steps, keeps-done, keeps-told, keeps-why}
 use Rattle.house.proofs.Draining.{heard, holds-drain}
 use Rattle.house.proofs.Cutting.{cutting, Unlent, cut-root}
-use Rattle.house.proofs.Hiding.{hidingBelow, hides-hold, count-most}
+use Rattle.house.proofs.Unmapped.{hidingBelow, hides-hold, count-most}
 use Rattle.house.proofs.Closed.{owner-meant, meant-leaving, loosenedFrom, closed-left, kept-shut, kept-shutting, kept-unregistered, shut-sound}
 use Rattle.house.proofs.Built.{close-built}
 

@@ -21,6 +21,6 @@ pub mod Steps
 pub mod Tables
 pub mod Uses
 pub mod Cutting
-pub mod Hiding
+pub mod Unmapped
 pub mod Closed
 pub mod Closes

@@ -27,8 +27,8 @@ use crate::drains::Forgotten;
 use crate::operations::hide;
 use crate::operations::write;
 use crate::refusals::Refusal;
+use crate::refusals::device;
 use crate::refusals::held;
-use crate::refusals::known_device;
 use ledger::closing::begin_closing;
 use ledger::closing::shut_device;
 use ledger::registers::hide_registers;
@@ -38,7 +38,7 @@ fn plan_close(room: &[u64], frames: u32, devices: u32, who: u32, d: u32) -> Resu
     requires { ⌜ Consistent frames (now room) ⌝ ∗ ⌜ devices ≤ 32 ⌝ }
     ensures { λ r. ⌜ Cases r (λ _. (d < devices) × (ownerIs who (deviceOf (now (room .entry)) d) ≡ true)) (λ e. CloseRefused (viewOf frames (now (room .entry))) devices who d e) ⌝ }
 {
-    known_device(devices, d)?;
+    device(devices, d)?;
     held(room, who, d)
 }
 

@@ -100,17 +100,6 @@ pub fn at_home(room: &[u64], frames: u32, who: u32, v: u32, f: u32) -> Result<()
     }
 }
 
-// A device that the machine has.
-pub fn known_device(devices: u32, d: u32) -> Result<(), Refusal>
-    ensures { λ r. ⌜ Cases r (λ _. d < devices) (λ e. (e ≡ Refusal.OutOfRange) × (devices ≤ d)) ⌝ }
-{
-    if d < devices {
-        Ok(())
-    } else {
-        Err(Refusal::OutOfRange)
-    }
-}
-
 // `who` has the device, open or closing.
 pub fn held(room: &[u64], who: u32, d: u32) -> Result<(), Refusal>
     requires { ⌜ 65536 ≤ length (now room) ⌝ ∗ ⌜ d < 32 ⌝ }

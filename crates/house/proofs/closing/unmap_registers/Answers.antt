@@ -11,7 +11,7 @@ use Rattle.ledger.specs.View.{viewOf, View}
 use Rattle.ledger.specs.Changes.{hiddenBelow, withoutRegisters}
 use Rattle.ledger.proofs.Emptied.{hidden-none, hidden-more, hidden-all}
 use Rattle.house.specs.Unmapping.{Hid}
-use Rattle.house.proofs.Hiding.{hid-none, hid-skip, hid-more, still-left}
+use Rattle.house.proofs.Unmapped.{hid-none, hid-skip, hid-more, still-left}
 use Rattle.house.proofs.closing.unmap_registers.Given as given
 use Rattle.house.proofs.closing.unmap_registers.Needs as need
 

@@ -1,6 +1,6 @@
 -- Places that are unmapped while a call is under way: the meaning is not asked for them until the call is over.
 use mathlib.Core.Path.{_≡_, refl, sym, ap, subst, fun-ext, _∙_}
-use mathlib.Core.Bool.{Bool, true, false, cond, _&&_, _||_}
+use mathlib.Core.Bool.{Bool, true, false, _&&_, _||_}
 use mathlib.Core.Logic.{⊎-elim}
 use mathlib.Core.List.{List}
 use Prim.Native.Nat.{ℕ, zero, suc, _+_, _<_, _≤_}
@@ -10,46 +10,20 @@ use lib.Dec.{eqb, ltb}
 use Rattle.std.proofs.shelf.Tests.{cases-eq, cases-lt, eq-eqb, ne-eqb, lt-ltb, le-ltb}
 use Rattle.ledger.specs.View as ledger
 use Rattle.house.specs.Event.{Event}
-use Rattle.house.specs.Machine.{Hw, Shown, Nothing, Steps, counted, shows}
+use Rattle.house.specs.Machine.{Hw, Nothing, Steps, counted, shows}
 use Rattle.house.specs.Meaning.{Now}
-use Rattle.house.specs.Kept.{shownMeant}
 use Rattle.house.specs.Serving.{Progress, Holds}
 use Rattle.house.specs.Unmapping.{Hides, Hid, count, oneIf}
 use Rattle.house.proofs.Steps.{steps-same}
 use Rattle.house.proofs.Between.{holds-steps}
+use Rattle.house.proofs.Hiding.{hiding, hide-place}
 
 abbrev pub withHidden : (ℕ → ℕ → Bool) → Progress → Progress
 withHidden x p = record { cut = p .cut; hidden = x; yeses = p .yeses; noes = p .noes }
 
--- place u of c shows nothing already
-abbrev pub hiding : ℕ → ℕ → Progress → Progress
-hiding c u p = withHidden (λ a b. (eqb a c && eqb b u) || p .hidden a b) p
-
 -- the places of c below k that pass the test show nothing already
 abbrev pub hidingBelow : ℕ → (ℕ → Bool) → ℕ → Progress → Progress
 hidingBelow c q k p = withHidden (λ a b. (eqb a c && (ltb b k && q b)) || p .hidden a b) p
-
-hidden-too : (b t : Bool) (x y : Shown) → y ≡ cond t Nothing x → cond b Nothing y ≡ cond (b || t) Nothing x
-hidden-too true t x y e = refl
-hidden-too false t x y e = e
-
-pub hide-place : {v : ledger.View} {p : Progress} {n : Now} {h : Hw} {es : List Event} (c u : ℕ) → Holds v p n h es → Holds v (hiding c u p) n (counted (shows c u Nothing h)) es
-hide-place {v} {p} {n} {h} {es} c u a = record {
-  fits = a .fits;
-  state = a .state;
-  run = a .run;
-  shape = a .shape;
-  drainedAre = a .drainedAre;
-  undrainedAre = a .undrainedAre;
-  kept = a .kept;
-  sound = a .sound;
-  words = a .words;
-  live = a .live;
-  shown = λ d y x z. hidden-too (eqb d c && eqb y u) (p .hidden d y) (shownMeant (v .place d y)) (h .space d y) (a .shown d y x z);
-  roots = a .roots;
-  severed = a .severed;
-  forgot = a .forgot;
-}
 
 -- which places are hidden, said in another way
 pub hidden-as : {v : ledger.View} (p : Progress) {n : Now} {h : Hw} {es : List Event} (x y : ℕ → ℕ → Bool) → ((a b : ℕ) → x a b ≡ y a b) → Holds v (withHidden x p) n h es → Holds v (withHidden y p) n h es
