@@ -10,6 +10,7 @@ use Rattle.house.specs.declared.Call.{Call}
 use Rattle.house.specs.Event.{Event, Asked, Loaded, Stored, Faulted, Poked}
 use Rattle.house.specs.Machine.{Shown, Nothing, Frame, Registers, Hw, Runs, Comes, withMem, allowed, put}
 use Rattle.house.specs.Meaning.{Loan, Use, House, TableOf, Idle, Of, State, Quiet, Under, Run, isOf, setWord, setDrains}
+use Rattle.house.specs.Simulation.{Begun}
 use Rattle.house.specs.Sound.{Tables, viewOf, SoundAt, Words, Shape, Same, Steady, Ran, ShownAt, ShowsRight, ShowsIn, isPage}
 use Rattle.house.proofs.Memory.{put-else, words-put, other-frame, put-keeps}
 use Rattle.house.proofs.Steps.{same-none, same-then, same-mem, step-same, shape-same, step-keeps, no-page-home}
@@ -123,16 +124,6 @@ comes-some (Comes.comes {j = i} {gs = fs} who c b r) = record { hw = i; events =
 
 pub comes-none : {h : Hw} {es : List Event} {j : Hw} {gs : List Event} → Comes h es None j gs → Runs h es j gs
 comes-none (Comes.over r) = r
-
--- A call under way, with no device asked about yet and 2,048 asks allowed.
-pub record Begun (can : Call → Bool) (start : State) (t : Tables) (s : State) (h : Hw) (who : ℕ) (c : Call) (j : Hw) (gs : List Event) : Type 0 where
-  pub small : who < 32
-  pub word : ℕ → ℕ → ℕ
-  pub run : Run can start gs (setDrains [] [] (setWord word s)) (Under who c)
-  pub sound : SoundAt t (viewOf s) j
-  pub words : Words (viewOf s) word (j .mem)
-  pub same : Same (allowed 2048 h) j
-  pub quiet : (f k : ℕ) → T (not (isPage (s .what f))) → j .mem f k ≡ h .mem f k
 
 same-allowed : (n : ℕ) {h j : Hw} → Same h j → Same (allowed n h) (allowed n j)
 same-allowed n a = record { frames = a .frames; devices = a .devices; group = a .group; driver = a .driver; space = a .space; live = a .live; left = refl }

@@ -1,11 +1,11 @@
 -- Tests, `any` and `first`, lists of numbers, and how a refusal is read. Assumes nothing.
-use mathlib.Core.Path.{_≡_, refl, sym, ap, subst, _∙_}
+use mathlib.Core.Path.{_≡_, refl, sym, subst}
 use mathlib.Core.Bool.{Bool, true, false, cond, _&&_, _||_, not}
 use mathlib.Core.Logic.{_⊎_, inl, inr, ⊎-elim}
-use mathlib.Core.List.{List, [], _∷_, _++_}
-use Prim.Native.Nat.{ℕ, zero, suc, _+_, _<_, _≤_}
+use mathlib.Core.List.{List, _∷_}
+use Prim.Native.Nat.{ℕ, zero, suc, _<_}
 use native.Mathlib.Omega.{arith}
-use lib.Dec.{eqb, ltb, leb, T, eqb→eq, eqb-refl, T-not, not-T}
+use lib.Dec.{eqb, T, eqb→eq, eqb-refl, T-not, not-T}
 use Rattle.std.proofs.shelf.Tests.{cases-eq, eq-eqb, ne-eqb}
 use Rattle.house.specs.Meaning.{any, first, isIn, every}
 
@@ -149,3 +149,19 @@ pub every-at : (n : ℕ) (p : ℕ → Bool) → T (every n p) → (f : ℕ) → 
 unfolding every
 every-at zero p t f l = absurd (omega arith)
 every-at (suc n) p t f l = ⊎-elim (λ (e : f ≡ n). subst (λ (x : ℕ). T (p x)) (sym e) (both (every n p) (p n) t .1)) (λ (d : f ≡ n → ⊥). every-at n p (both (every n p) (p n) t .0) f (omega arith)) (cases-eq f n)
+
+-- tests that agree below n
+pub any-same : (n : ℕ) (p q : ℕ → Bool) → ((f : ℕ) → p f ≡ q f) → any n p ≡ any n q
+unfolding any
+any-same zero p q e = refl
+any-same (suc n) p q e = let h = any-same n p q e in let g = e n in cc
+
+pub first-same : (n : ℕ) (p q : ℕ → Bool) → ((f : ℕ) → p f ≡ q f) → first n p ≡ first n q
+unfolding first
+first-same zero p q e = refl
+first-same (suc n) p q e = let h = first-same n p q e in let g = any-same n p q e in cc
+
+pub every-same : (n : ℕ) (p q : ℕ → Bool) → ((f : ℕ) → p f ≡ q f) → every n p ≡ every n q
+unfolding every
+every-same zero p q e = refl
+every-same (suc n) p q e = let h = every-same n p q e in let g = e n in cc

@@ -3,9 +3,16 @@ pub mod Machine
 pub mod Meaning
 pub mod Promise
 pub mod Sound
+pub mod Simulation
 pub mod Serving
 pub mod Kept
 pub mod Operations
 pub mod Refusals
+pub mod Seen
+pub mod Served
+pub mod Gone
+pub mod Words
+pub mod Rows
+pub mod Mappings
 pub mod Unmapping
 pub mod Closures

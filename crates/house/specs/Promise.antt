@@ -17,12 +17,12 @@ use Rattle.house.specs.Meaning.{Loan, Home, Lent, Leaving, Use, House, TableOf
 abbrev pub can : Call → Bool
 can (Get v) = true
 can (Free v) = true
-can (Give v to at) = false
-can (Open d) = false
+can (Give v to at) = true
+can (Open d) = true
 can (Close d) = true
-can (Regs d v) = false
+can (Regs d v) = true
 can (Lend v d p w) = false
-can (Recall v) = false
+can (Recall v) = true
 can (End w) = false
 
 -- the core stays built

@@ -1,15 +1,19 @@
 -- The numbers of refusals, and what each says of the room when a call is refused by it: the first that applies.
 -- Nothing is assumed here.
 use mathlib.Core.Path.{_≡_}
+use mathlib.Core.Logic.{_⊎_}
 use mathlib.Core.Bool.{true, false}
 use Prim.Native.Nat.{ℕ, _<_, _≤_}
 use Rattle.std.specs.declared.result.Result.{Result}
 use Rattle.std.specs.declared.result.Result.the-variants.{Ok, Err}
 use Rattle.ledger.specs.declared.Loan.the-variants as loan
 use Rattle.ledger.specs.declared.Use.the-variants as used
+use Rattle.ledger.specs.declared.Place.{Place}
 use Rattle.ledger.specs.declared.Place.the-variants as place
+use Rattle.ledger.specs.declared.Device.{Device}
+use Rattle.ledger.specs.declared.Device.the-variants as device
 use Rattle.ledger.specs.View as ledger
-use Rattle.ledger.specs.Uses.{loanIn, ownerIs}
+use Rattle.ledger.specs.Uses.{loanIn, ownerIs, heldByOther}
 use Rattle.house.specs.declared.Answer.{Answer}
 use Rattle.house.specs.declared.Answer.the-variants.{Done, Later, No}
 use Rattle.house.specs.declared.refusals.Refusal.{Refusal}
@@ -69,6 +73,61 @@ FreeRefused v c u Held = ⊥
 FreeRefused v c u NoFrame = ⊥
 FreeRefused v c u NotPermitted = ⊥
 FreeRefused v c u NotBuilt = ⊥
+
+-- of m devices in these groups, one of d's group is held by another program than c
+abbrev pub GroupHeld : (ℕ → Device) → ℕ → (ℕ → ℕ) → ℕ → ℕ → Type 0
+GroupHeld dev m group c d = (e : ℕ) × (e < m) × (group e ≡ group d) × (heldByOther c (dev e) ≡ true)
+
+abbrev pub GroupFree : (ℕ → Device) → ℕ → (ℕ → ℕ) → ℕ → ℕ → Type 0
+GroupFree dev m group c d = (e : ℕ) → e < m → group e ≡ group d → heldByOther c (dev e) ≡ true → ⊥
+
+-- c opens device d of a machine of n frames and m devices
+abbrev pub OpenRefused : ledger.View → ℕ → ℕ → (ℕ → ℕ) → (ℕ → ℕ) → ℕ → ℕ → Refusal → Type 0
+OpenRefused v n m group driver c d OutOfRange = m ≤ d
+OpenRefused v n m group driver c d NoPage = ⊥
+OpenRefused v n m group driver c d Occupied = ⊥
+OpenRefused v n m group driver c d WrongLoan = ⊥
+OpenRefused v n m group driver c d NotYours = (d < m) × (driver d ≡ c → ⊥)
+OpenRefused v n m group driver c d Held = (d < m) × (driver d ≡ c) × ((v .device d ≡ device.Shut → ⊥) ⊎ GroupHeld (v .device) m group c d)
+OpenRefused v n m group driver c d NoFrame = (d < m) × (driver d ≡ c) × (v .device d ≡ device.Shut) × GroupFree (v .device) m group c d × ((f : ℕ) → f < n → v .used f ≡ used.Idle → ⊥)
+OpenRefused v n m group driver c d NotPermitted = ⊥
+OpenRefused v n m group driver c d NotBuilt = ⊥
+
+-- the place u of c is to show the registers of device d, of m
+abbrev pub RegsRefused : (ℕ → ℕ → Place) → (ℕ → Device) → ℕ → ℕ → ℕ → ℕ → Refusal → Type 0
+RegsRefused shown dev m c d u OutOfRange = (m ≤ d) ⊎ (1024 ≤ u)
+RegsRefused shown dev m c d u NoPage = ⊥
+RegsRefused shown dev m c d u Occupied = (d < m) × (u < 1024) × (shown c u ≡ place.Nothing → ⊥)
+RegsRefused shown dev m c d u WrongLoan = ⊥
+RegsRefused shown dev m c d u NotYours = (d < m) × (u < 1024) × (shown c u ≡ place.Nothing) × (dev d ≡ device.Opened c → ⊥)
+RegsRefused shown dev m c d u Held = ⊥
+RegsRefused shown dev m c d u NoFrame = ⊥
+RegsRefused shown dev m c d u NotPermitted = ⊥
+RegsRefused shown dev m c d u NotBuilt = ⊥
+
+-- c gives its page at u to a, at b
+abbrev pub GiveRefused : ledger.View → ℕ → ℕ → ℕ → ℕ → Refusal → Type 0
+GiveRefused v c u a b OutOfRange = (1024 ≤ u) ⊎ ((32 ≤ a) ⊎ (1024 ≤ b))
+GiveRefused v c u a b NoPage = (u < 1024) × (a < 32) × (b < 1024) × ((f : ℕ) → v .place c u ≡ place.Page f → ⊥)
+GiveRefused v c u a b Occupied = (u < 1024) × (a < 32) × (b < 1024) × ((f : ℕ) × (v .place c u ≡ place.Page f)) × (v .place a b ≡ place.Nothing → ⊥)
+GiveRefused v c u a b WrongLoan = (u < 1024) × (a < 32) × (b < 1024) × (v .place a b ≡ place.Nothing) × ((f : ℕ) × (v .place c u ≡ place.Page f) × (loanIn (v .used f) ≡ loan.Home → ⊥))
+GiveRefused v c u a b NotYours = ⊥
+GiveRefused v c u a b Held = ⊥
+GiveRefused v c u a b NoFrame = ⊥
+GiveRefused v c u a b NotPermitted = ⊥
+GiveRefused v c u a b NotBuilt = ⊥
+
+-- c recalls its page at u
+abbrev pub RecallRefused : ledger.View → ℕ → ℕ → Refusal → Type 0
+RecallRefused v c u OutOfRange = 1024 ≤ u
+RecallRefused v c u NoPage = (u < 1024) × ((f : ℕ) → v .place c u ≡ place.Page f → ⊥)
+RecallRefused v c u Occupied = ⊥
+RecallRefused v c u WrongLoan = (u < 1024) × ((f : ℕ) × (v .place c u ≡ place.Page f) × (loanIn (v .used f) ≡ loan.Home))
+RecallRefused v c u NotYours = ⊥
+RecallRefused v c u Held = ⊥
+RecallRefused v c u NoFrame = ⊥
+RecallRefused v c u NotPermitted = ⊥
+RecallRefused v c u NotBuilt = ⊥
 
 -- c closes device d; the machine has n devices
 abbrev pub CloseRefused : ledger.View → ℕ → ℕ → ℕ → Refusal → Type 0

@@ -8,15 +8,17 @@ ghost use lib.ListN.{length};
 ghost use Rattle.std.specs.Results.{Cases};
 ghost use Rattle.ledger.specs.declared.Use.the-variants.{Idle};
 ghost use Rattle.ledger.specs.declared.Place.the-variants.{Nothing};
-ghost use Rattle.ledger.specs.Room.{useOf, placeOf};
+ghost use Rattle.ledger.specs.declared.Device.the-variants.{Shut};
+ghost use Rattle.ledger.specs.Room.{useOf, placeOf, deviceOf};
 ghost use Rattle.ledger.specs.View.{viewOf};
 ghost use Rattle.ledger.specs.Consistent.{Consistent};
-ghost use Rattle.ledger.specs.Changes.{newPage};
+ghost use Rattle.ledger.specs.Changes.{newPage, openedBy};
 ghost use Rattle.house.specs.Operations.{Cleared};
 use crate::Machine;
 use crate::refusals::Refusal;
 use ledger::pages::new_page;
 use ledger::searches::find_idle;
+use ledger::tables::open_device;
 
 pub struct Taken {
     frame: u32,
@@ -67,6 +69,20 @@ impl Taken {
         ensures consistent { λ _. ⌜ Consistent frames (now (room .exit)) ⌝ }
     {
         new_page(room, frames, who, v, self.frame);
+        self.settled = true;
+        self.frame
+    }
+
+    // It becomes the upper table of d, which was shut and which `who` has open now.
+    pub fn into_upper_table(mut self, room: &mut [u64], frames: u32, who: u32, d: u32) -> u32
+        requires consistent { ⌜ Consistent frames (now room) ⌝ }
+        requires device { ⌜ who < 32 ⌝ ∗ ⌜ d < 32 ⌝ ∗ ⌜ deviceOf (now room) d ≡ Shut ⌝ }
+        requires frame { ⌜ self .frame < frames ⌝ ∗ ⌜ useOf (now room) (self .frame) ≡ Idle ⌝ }
+        ensures frame { λ r. ⌜ r ≡ self .frame ⌝ }
+        ensures view { λ _. ⌜ viewOf frames (now (room .exit)) ≡ openedBy who d (self .frame) (viewOf frames (now (room .entry))) ⌝ }
+        ensures consistent { λ _. ⌜ Consistent frames (now (room .exit)) ⌝ }
+    {
+        open_device(room, frames, who, d, self.frame);
         self.settled = true;
         self.frame
     }

@@ -7,22 +7,30 @@ ghost use lib.Dec.{T};
 ghost use Rattle.house.specs.Event.{Event, Told};
 ghost use Rattle.house.specs.Machine.{Hw, Frame, Registers, Nothing, AtStart, Steps, Drains, Comes, withMem, counted, put, shows, started};
 ghost use Rattle.house.specs.Meaning.{Explained, Quiet};
-ghost use Rattle.house.specs.Promise.{can, roomOf, startOf};
+ghost use Rattle.house.specs.Promise.{can, roomOf, startOf, OnePlace, LentByDriver, HomeIsQuiet, NewIsNoughts};
 ghost use Rattle.house.specs.Refusals.{answerOf, IfRefused, IfNo, NeverNo};
 ghost use Rattle.house.specs.Serving.{Keeps, Begins};
 
 mod closing;
+mod devices;
 mod drains;
 mod frames;
 mod operations;
 mod pages;
+mod recalls;
 mod refusals;
+pub mod simulation;
+pub mod theorems;
 
 use closing::close;
+use devices::map_registers;
+use devices::open_device;
 use frames::clear;
 use ledger::setup::set_up;
 use pages::free;
 use pages::get;
+use pages::give;
+use recalls::recall;
 use refusals::Refusal;
 
 // the frame in which the device table is
@@ -188,12 +196,12 @@ impl Keeper {
         match c {
             Call::Get { v } => get(w, room, &mut self.next, who, v),
             Call::Free { v } => free(w, room, who, v),
-            Call::Give { .. } => Err(Refusal::NotBuilt),
-            Call::Open { .. } => Err(Refusal::NotBuilt),
+            Call::Give { v, to, at } => give(w, room, who, v, to, at),
+            Call::Open { d } => open_device(w, room, &mut self.next, who, d),
             Call::Close { d } => close(w, room, who, d),
-            Call::Regs { .. } => Err(Refusal::NotBuilt),
+            Call::Regs { d, v } => map_registers(w, room, who, d, v),
             Call::Lend { .. } => Err(Refusal::NotBuilt),
-            Call::Recall { .. } => Err(Refusal::NotBuilt),
+            Call::Recall { v } => recall(w, room, who, v),
             Call::End { .. } => Err(Refusal::NotBuilt),
         }
     }
@@ -226,4 +234,25 @@ pub fn keeper_is_small() -> bool
     ensures { λ r. ⌜ T r ⌝ }
 {
     std::mem::size_of::<Keeper>() <= 4096
+}
+
+// No two frames are at one place, or at one page of a device.
+pub fn one_place() -> u8
+    ensures { λ _. ⌜ OnePlace ⌝ }
+{
+    0
+}
+
+// A loan's owner has the device, and the devices of a group that are held have one holder.
+pub fn lent_by_driver() -> u8
+    ensures { λ _. ⌜ LentByDriver ⌝ }
+{
+    0
+}
+
+// A device touches only what is lent to it or leaving it there; a new page is noughts.
+pub fn home_is_quiet() -> u8
+    ensures { λ _. ⌜ HomeIsQuiet ⌝ ∗ ⌜ NewIsNoughts ⌝ }
+{
+    0
 }

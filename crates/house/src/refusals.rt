@@ -6,6 +6,7 @@ ghost use lib.ListN.{length};
 ghost use Rattle.std.specs.Results.{Cases};
 ghost use Rattle.ledger.specs.Room.{placeOf, deviceOf};
 ghost use Rattle.ledger.specs.declared.Place.the-variants.{Nothing, Page};
+ghost use Rattle.ledger.specs.declared.Device.the-variants.{Shut, Opened};
 ghost use Rattle.ledger.specs.declared.Loan.the-variants.{Home};
 ghost use Rattle.ledger.specs.declared.Use.the-variants.{PageOf};
 ghost use Rattle.ledger.specs.View.{viewOf};
@@ -97,6 +98,50 @@ pub fn at_home(room: &[u64], frames: u32, who: u32, v: u32, f: u32) -> Result<()
             loan: Loan::Home,
         } => Ok(()),
         _ => Err(Refusal::WrongLoan),
+    }
+}
+
+// A device of the machine.
+pub fn device(devices: u32, d: u32) -> Result<(), Refusal>
+    ensures { λ r. ⌜ Cases r (λ _. d < devices) (λ e. (e ≡ Refusal.OutOfRange) × (devices ≤ d)) ⌝ }
+{
+    if d < devices {
+        Ok(())
+    } else {
+        Err(Refusal::OutOfRange)
+    }
+}
+
+// Device d is shut.
+pub fn shut(room: &[u64], d: u32) -> Result<(), Refusal>
+    requires { ⌜ 65536 ≤ length (now room) ⌝ ∗ ⌜ d < 32 ⌝ }
+    ensures { λ r. ⌜ Cases r (λ _. deviceOf (now (room .entry)) d ≡ Shut) (λ e. (e ≡ Refusal.Held) × (deviceOf (now (room .entry)) d ≡ Shut → ⊥)) ⌝ }
+{
+    match device_at(room, d) {
+        Device::Shut => Ok(()),
+        _ => Err(Refusal::Held),
+    }
+}
+
+// `who` has device d open.
+pub fn open_by(room: &[u64], who: u32, d: u32) -> Result<(), Refusal>
+    requires { ⌜ 65536 ≤ length (now room) ⌝ ∗ ⌜ d < 32 ⌝ }
+    ensures { λ r. ⌜ Cases r (λ _. deviceOf (now (room .entry)) d ≡ Opened who) (λ e. (e ≡ Refusal.NotYours) × (deviceOf (now (room .entry)) d ≡ Opened who → ⊥)) ⌝ }
+{
+    match device_at(room, d) {
+        Device::Opened(c) if c == who => Ok(()),
+        _ => Err(Refusal::NotYours),
+    }
+}
+
+// A program.
+pub fn program(c: u32) -> Result<(), Refusal>
+    ensures { λ r. ⌜ Cases r (λ _. c < 32) (λ e. (e ≡ Refusal.OutOfRange) × (32 ≤ c)) ⌝ }
+{
+    if c < 32 {
+        Ok(())
+    } else {
+        Err(Refusal::OutOfRange)
     }
 }
 

@@ -20,7 +20,7 @@ use Rattle.ledger.specs.declared.Device.the-variants.{Shut, Opened, Closing}
 use Rattle.ledger.specs.Words.{UseFits, LoanFits, WhichFits, DeviceFits, useFrom, loanFrom, whichFrom, deviceFrom, isSet}
 use Rattle.ledger.specs.Room.{useOf, placeOf, deviceOf, topOf, lowOf}
 use Rattle.ledger.specs.View.{View, viewOf}
-use Rattle.ledger.specs.Uses.{isPage}
+use Rattle.ledger.specs.Uses.{isPage, isShut}
 use Rattle.ledger.specs.Consistent.{LoanOk, FrameOk, PlaceOk, Coherent, Consistent}
 use Rattle.ledger.proofs.Moves.{is-page}
 
@@ -89,6 +89,20 @@ module _ (s : View) (K : Coherent s) where
 
   pub page-loan : (c v f : ℕ) (l : Loan) → s .used f ≡ PageOf c v l → LoanOk (s .device) (s .low) c l
   page-loan c v f l e = subst (FrameOk (s .place) (s .device) (s .top) (s .low) f) e (K .frames f) .1
+
+  -- a table's frame is the one that its device has noted, and the other way round
+  pub upper-noted : (d f : ℕ) → s .used f ≡ TableOf d Upper → (s .top d ≡ f) × (isShut (s .device d) ≡ false)
+  upper-noted d f e = subst (FrameOk (s .place) (s .device) (s .top) (s .low) f) e (K .frames f)
+
+  pub lower-noted : (d i f : ℕ) → s .used f ≡ TableOf d (Lower i) → s .low d i ≡ suc f
+  lower-noted d i f e = subst (FrameOk (s .place) (s .device) (s .top) (s .low) f) e (K .frames f)
+
+  pub registers-opened : (c v d : ℕ) → s .place c v ≡ Registers d → s .device d ≡ Opened c
+  registers-opened c v d e = subst (PlaceOk (s .used) (s .device) c v) e (K .places c v)
+
+-- what the room says of a frame, by its view
+pub use-of : (n : ℕ) (r : List ℕ) (s : View) → viewOf n r ≡ s → (f : ℕ) → f < n → useOf r f ≡ s .used f
+use-of n r s e f l = sym (used-at n r f l) ∙ ap (λ (v : View). v .used f) e
 
 -- the frame of a place is a frame of the room, and its page's use says that place
 pub page-at : (n : ℕ) (r : List ℕ) → Consistent n r → (c v f : ℕ) → placeOf r c v ≡ Page f → (f < n) × ((l : Loan) × (useOf r f ≡ PageOf c v l))

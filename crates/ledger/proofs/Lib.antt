@@ -8,3 +8,4 @@ pub mod Swept
 pub mod Closed
 pub mod Searched
 pub mod Emptied
+pub mod Loaned

@@ -3,6 +3,7 @@ pub mod closing;
 pub mod devices;
 pub mod frames;
 pub mod layout;
+pub mod loans;
 pub mod pages;
 pub mod places;
 pub mod record;
@@ -60,3 +61,6 @@ pub enum Device {
     Opened(u32),
     Closing(u32),
 }
+
+#[cfg(test)]
+mod tests;
