@@ -16,10 +16,22 @@ const FRAMES: usize = 64;
 
 // Program 1 may open devices 0 and 1, which are in one group, program 2 device 2. Device 3 is in a group of its own, and program 31's.
 const DEVICES: [Device; 4] = [
-    Device { group: 0, driver: 1 },
-    Device { group: 0, driver: 1 },
-    Device { group: 1, driver: 2 },
-    Device { group: 2, driver: 31 },
+    Device {
+        group: 0,
+        driver: 1,
+    },
+    Device {
+        group: 0,
+        driver: 1,
+    },
+    Device {
+        group: 1,
+        driver: 2,
+    },
+    Device {
+        group: 2,
+        driver: 31,
+    },
 ];
 
 // 50,000 rows of four words.
@@ -34,9 +46,23 @@ fn main(rt: LibcRuntime) -> io::Result<()> {
     let mut flying = [0; FRAMES];
     let mut log = [Note::BLANK; EVENTS];
     let mut room = [0; 65536 + 2 * FRAMES];
-    let mut console = Console::new(Lines::new(BufReader::new(rt.stdin())), BufWriter::new(rt.stdout()));
+    let mut console = Console::new(
+        Lines::new(BufReader::new(rt.stdin())),
+        BufWriter::new(rt.stdout()),
+    );
     for _ in 0..u64::MAX {
-        match play_on(&mut memory, &mut spaces, &mut ups, &mut mids, &mut leaves, &mut flying, &mut log, &DEVICES, &mut room, &mut console) {
+        match play_on(
+            &mut memory,
+            &mut spaces,
+            &mut ups,
+            &mut mids,
+            &mut leaves,
+            &mut flying,
+            &mut log,
+            &DEVICES,
+            &mut room,
+            &mut console,
+        ) {
             Ok(true) => {}
             Ok(false) => break,
             Err(_) => return Err(io::Error::from(ErrorKind::InvalidInput)),

@@ -42,3 +42,7 @@ pub mod Table
 pub mod Tables
 pub mod Uses
 pub mod Words
+pub mod Cutting
+pub mod Unmapped
+pub mod Closed
+pub mod Closes

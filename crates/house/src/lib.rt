@@ -7,10 +7,11 @@ ghost use lib.Dec.{T};
 ghost use Rattle.house.specs.Event.{Event, Told};
 ghost use Rattle.house.specs.Machine.{Hw, Frame, Registers, Nothing, AtStart, Steps, Drains, Comes, withMem, counted, put, shows, started};
 ghost use Rattle.house.specs.Meaning.{Explained, Quiet};
-ghost use Rattle.house.specs.Promise.{can, roomOf, startOf, OnePlace, LentByDriver, HomeIsQuiet, NewIsNoughts};
+ghost use Rattle.house.specs.Promise.{can, roomOf, startOf, OnePlace, LentByDriver, HomeIsQuiet, NewIsNoughts, CoreBuilt};
 ghost use Rattle.house.specs.Refusals.{answerOf, IfRefused, IfNo, NeverNo};
 ghost use Rattle.house.specs.Serving.{Keeps, Begins};
 
+mod closing;
 mod devices;
 mod drains;
 mod frames;
@@ -22,6 +23,7 @@ mod refusals;
 pub mod simulation;
 pub mod theorems;
 
+use closing::close;
 use devices::map_registers;
 use devices::open_device;
 use frames::clear;
@@ -199,7 +201,7 @@ impl Keeper {
             Call::Free { v } => free(w, room, who, v),
             Call::Give { v, to, at } => give(w, room, who, v, to, at),
             Call::Open { d } => open_device(w, room, &mut self.next, who, d),
-            Call::Close { .. } => Err(Refusal::NotBuilt),
+            Call::Close { d } => close(w, room, who, d),
             Call::Regs { d, v } => map_registers(w, room, who, d, v),
             Call::Lend { v, d, p, writes } => {
                 let at = Mapping {
@@ -242,6 +244,13 @@ pub fn keeper_is_small() -> bool
     ensures { λ r. ⌜ T r ⌝ }
 {
     std::mem::size_of::<Keeper>() <= 4096
+}
+
+// The core is built: get, free, open, close, lend, recall.
+pub fn core_built() -> u8
+    ensures { λ _. ⌜ CoreBuilt ⌝ }
+{
+    0
 }
 
 // No two frames are at one place, or at one page of a device.

@@ -1,6 +1,6 @@
 // Why a call is refused: the reasons, their numbers, and the tests that several calls share.
 ghost use mathlib.Core.Path.{_≡_};
-ghost use mathlib.Core.Bool.{true};
+ghost use mathlib.Core.Bool.{true, false};
 ghost use Prim.Native.Nat.{ℕ, _+_, _*_, _<_, _≤_};
 ghost use lib.ListN.{length};
 ghost use Rattle.std.specs.Results.{Cases};
@@ -10,7 +10,7 @@ ghost use Rattle.ledger.specs.declared.Device.the-variants.{Shut, Opened};
 ghost use Rattle.ledger.specs.declared.Loan.the-variants.{Home};
 ghost use Rattle.ledger.specs.declared.Use.the-variants.{PageOf};
 ghost use Rattle.ledger.specs.View.{viewOf};
-ghost use Rattle.ledger.specs.Uses.{loanIn, isAt};
+ghost use Rattle.ledger.specs.Uses.{loanIn, isAt, ownerIs};
 ghost use Rattle.ledger.specs.Consistent.{Consistent};
 ghost use Rattle.house.specs.Lends.{Untaken};
 ghost use Rattle.house.specs.Refusals.{numberOf};
@@ -157,4 +157,17 @@ pub fn program(c: u32) -> Result<(), Refusal>
     } else {
         Err(Refusal::OutOfRange)
     }
+}
+
+// `who` has the device, open or closing.
+pub fn held(room: &[u64], who: u32, d: u32) -> Result<(), Refusal>
+    requires { ⌜ 65536 ≤ length (now room) ⌝ ∗ ⌜ d < 32 ⌝ }
+    ensures { λ r. ⌜ Cases r (λ _. ownerIs who (deviceOf (now (room .entry)) d) ≡ true) (λ e. (e ≡ Refusal.NotYours) × (ownerIs who (deviceOf (now (room .entry)) d) ≡ false)) ⌝ }
+{
+    let held = match device_at(room, d) {
+        Device::Shut => false,
+        Device::Opened(by) => who == by,
+        Device::Closing(by) => who == by,
+    };
+    if held { Ok(()) } else { Err(Refusal::NotYours) }
 }

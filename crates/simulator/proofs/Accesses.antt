@@ -21,18 +21,19 @@ use Rattle.simulator.proofs.Words.{mem-set}
 
 -- a word of memory written
 pub mem-path : (p : Parts) (fr : ℕ) (ws : List ℕ) (f k x : ℕ) → length (p .mem) ≡ 512 * p .frames → f < p .frames → k < 512 → fr ≡ p .frames → ws ≡ set (p .mem) (512 * f + k) x →
-  hwOf (written fr ws (p .left) p) ≡ withMem (put f k x (memOf (p .mem))) (hwOf p)
+    hwOf (written fr ws (p .left) p) ≡ withMem (put f k x (memOf (p .mem))) (hwOf p)
 mem-path p fr ws f k x len lf lk ef ew =
     let m : memOf ws ≡ put f k x (memOf (p .mem)) = subst (λ (us : List ℕ). memOf us ≡ put f k x (memOf (p .mem))) (sym ew) (fun-ext (λ g. fun-ext (λ j. mem-set (p .mem) (p .frames) f k x len lf lk g j))) in
     λ t. record { frames = ef t; devices = length (p .devices); group = hwOf p .group; driver = hwOf p .driver; mem = m t; space = spaceOf (ef t) (p .space); live = p .live; ups = hwOf p .ups; mids = hwOf p .mids; leaves = hwOf p .leaves; flying = hwOf p .flying; left = p .left }
 
 -- noted first, and then written
 pub noted-written : (p b : Parts) (n : Note) (e : Event) (fr : ℕ) (ws : List ℕ) (f k x : ℕ) → b ≡ noted (n ∷ p .notes) p → eventOf n ≡ e → length (p .mem) ≡ 512 * p .frames → f < p .frames → k < 512 → fr ≡ b .frames →
-  ws ≡ set (b .mem) (512 * f + k) x → (hwOf (written fr ws (b .left) b) ≡ withMem (put f k x (memOf (p .mem))) (hwOf p)) × (seenOf (written fr ws (b .left) b) ≡ e ∷ seenOf p)
+    ws ≡ set (b .mem) (512 * f + k) x → (hwOf (written fr ws (b .left) b) ≡ withMem (put f k x (memOf (p .mem))) (hwOf p)) × (seenOf (written fr ws (b .left) b) ≡ e ∷ seenOf p)
 noted-written p b n e fr ws f k x eb ee len lf lk ef ew = subst P (sym eb) base ef ew
   where
     P : Parts → Type 0
     P c = fr ≡ c .frames → ws ≡ set (c .mem) (512 * f + k) x → (hwOf (written fr ws (c .left) c) ≡ withMem (put f k x (memOf (p .mem))) (hwOf p)) × (seenOf (written fr ws (c .left) c) ≡ e ∷ seenOf p)
+
     base : P (noted (n ∷ p .notes) p)
     base a c = (mem-path p fr ws f k x len lf lk a c, ap (λ y. y ∷ seenOf p) ee)
 
@@ -52,6 +53,7 @@ walk-half h d p (suc t) e l f = go (h .live)
   where
     at : h .mem t (p / 512) ≡ 0
     at = let a : suc t - 1 ≡ t = omega arith in subst (λ u. h .mem u (p / 512) ≡ 0) a f
+
     go : (b : Bool) → 0 ≡ cond b (upper (h .mem 0 d) d p h) 0
     go true = sym (ap (λ w. upper w d p h) e ∙ ap (λ w. lower w d p h) at)
     go false = refl
@@ -68,7 +70,7 @@ walk-whole h d p (suc t) (suc s) v e l f m =
 
 -- a write by an entry, as code leaves it: f is the entry's frame
 pub put-done : (p b : Parts) (n : Note) (d g en fr : ℕ) (ws : List ℕ) (f k x : ℕ) (r : Bool) → r ≡ mayWrite en → r ≡ true → f ≡ frameIn en → b ≡ noted (n ∷ p .notes) p → eventOf n ≡ PutInto d g f k x → length (p .mem) ≡ 512 * p .frames →
-  f < p .frames → k < 512 → fr ≡ b .frames → ws ≡ set (b .mem) (512 * f + k) x → PutAt p d g en k x true (written fr ws (b .left) b)
+    f < p .frames → k < 512 → fr ≡ b .frames → ws ≡ set (b .mem) (512 * f + k) x → PutAt p d g en k x true (written fr ws (b .left) b)
 put-done p b n d g en fr ws f k x r er et ef eb ee len lf lk efr ew =
     let z = noted-written p b n (PutInto d g f k x) fr ws f k x eb ee len lf lk efr ew in
     (truly (sym er ∙ et), subst (λ u. hwOf (written fr ws (b .left) b) ≡ withMem (put u k x (memOf (p .mem))) (hwOf p)) ef (z .0), subst (λ u. seenOf (written fr ws (b .left) b) ≡ PutInto d g u k x ∷ seenOf p) ef (z .1))

@@ -28,6 +28,7 @@ module _ {A : Type 0} (f : ℕ → A) (at : List A → Hw) (es : List Event) (le
     where
       P : List ℕ → Type 0
       P vs = Steps (at (pre ++ (f w ∷ map f ws))) es (at (pre ++ map f vs)) es
+
       go : (eqb d (deviceIn w) ≡ true) ⊎ (eqb d (deviceIn w) ≡ false) → ((qs : List A) → Steps (at (qs ++ map f ws)) es (at (qs ++ map f (without d ws))) es) → P (cond (eqb d (deviceIn w)) (without d ws) (w ∷ without d ws))
       go (inl e) r =
           subst P (sym (cond-true (eqb d (deviceIn w)) (without d ws) (w ∷ without d ws) e))
@@ -35,7 +36,7 @@ module _ {A : Type 0} (f : ℕ → A) (at : List A → Hw) (es : List Event) (le
       go (inr e) r =
           subst P (sym (cond-false (eqb d (deviceIn w)) (without d ws) (w ∷ without d ws) e))
           (subst (λ (xs : List A). Steps (at xs) es (at (pre ++ (f w ∷ map f (without d ws)))) es) (append-assoc pre (f w ∷ []) (map f ws))
-            (subst (λ (xs : List A). Steps (at ((pre ++ (f w ∷ [])) ++ map f ws)) es (at xs) es) (append-assoc pre (f w ∷ []) (map f (without d ws))) (r (pre ++ (f w ∷ [])))))
+          (subst (λ (xs : List A). Steps (at ((pre ++ (f w ∷ [])) ++ map f ws)) es (at xs) es) (append-assoc pre (f w ∷ []) (map f (without d ws))) (r (pre ++ (f w ∷ [])))))
 
   sieve : (ws : List ℕ) → Steps (at (map f ws)) es (at (map f (without d ws))) es
   sieve ws = sieve-from [] ws
@@ -50,9 +51,9 @@ forget-goes d p =
     let h = hwOf p in
     let es = seenOf p in
     steps-then (sieve upOf (λ xs. known xs (h .mids) (h .leaves) (h .flying) h) es (λ xs n. more (lessUp (known xs (h .mids) (h .leaves) (h .flying) h) n) (none _ es)) d (p .ups))
-      (steps-then (sieve midOf (λ xs. known (map upOf (without d (p .ups))) xs (h .leaves) (h .flying) h) es (λ xs n. more (lessMid (known (map upOf (without d (p .ups))) xs (h .leaves) (h .flying) h) n) (none _ es)) d (p .mids))
-        (steps-then (sieve leafOf (λ xs. known (map upOf (without d (p .ups))) (map midOf (without d (p .mids))) xs (h .flying) h) es (λ xs n. more (lessLeaf (known (map upOf (without d (p .ups))) (map midOf (without d (p .mids))) xs (h .flying) h) n) (none _ es)) d (p .leaves))
-          (sieve leafOf (λ xs. known (map upOf (without d (p .ups))) (map midOf (without d (p .mids))) (map leafOf (without d (p .leaves))) xs h) es (λ xs n. more (fails (known (map upOf (without d (p .ups))) (map midOf (without d (p .mids))) (map leafOf (without d (p .leaves))) xs h) n) (none _ es)) d (p .flying))))
+    (steps-then (sieve midOf (λ xs. known (map upOf (without d (p .ups))) xs (h .leaves) (h .flying) h) es (λ xs n. more (lessMid (known (map upOf (without d (p .ups))) xs (h .leaves) (h .flying) h) n) (none _ es)) d (p .mids))
+    (steps-then (sieve leafOf (λ xs. known (map upOf (without d (p .ups))) (map midOf (without d (p .mids))) xs (h .flying) h) es (λ xs n. more (lessLeaf (known (map upOf (without d (p .ups))) (map midOf (without d (p .mids))) xs (h .flying) h) n) (none _ es)) d (p .leaves))
+    (sieve leafOf (λ xs. known (map upOf (without d (p .ups))) (map midOf (without d (p .mids))) (map leafOf (without d (p .leaves))) xs h) es (λ xs n. more (fails (known (map upOf (without d (p .ups))) (map midOf (without d (p .mids))) (map leafOf (without d (p .leaves))) xs h) n) (none _ es)) d (p .flying))))
 
 -- nothing of d is left
 both : (a b : Bool) → T a → T b → T (a && b)
@@ -70,6 +71,7 @@ no-up d (w ∷ ws) = go (cases-bool (eqb d (deviceIn w))) (no-up d ws)
   where
     P : List ℕ → Type 0
     P vs = T (noUp d (map upOf vs))
+
     go : (eqb d (deviceIn w) ≡ true) ⊎ (eqb d (deviceIn w) ≡ false) → T (noUp d (map upOf (without d ws))) → P (cond (eqb d (deviceIn w)) (without d ws) (w ∷ without d ws))
     go (inl e) r = subst P (sym (cond-true (eqb d (deviceIn w)) (without d ws) (w ∷ without d ws) e)) r
     go (inr e) r =
@@ -82,6 +84,7 @@ no-mid d (w ∷ ws) = go (cases-bool (eqb d (deviceIn w))) (no-mid d ws)
   where
     P : List ℕ → Type 0
     P vs = T (noMid d (map midOf vs))
+
     go : (eqb d (deviceIn w) ≡ true) ⊎ (eqb d (deviceIn w) ≡ false) → T (noMid d (map midOf (without d ws))) → P (cond (eqb d (deviceIn w)) (without d ws) (w ∷ without d ws))
     go (inl e) r = subst P (sym (cond-true (eqb d (deviceIn w)) (without d ws) (w ∷ without d ws) e)) r
     go (inr e) r =
@@ -94,6 +97,7 @@ no-leaf d (w ∷ ws) = go (cases-bool (eqb d (deviceIn w))) (no-leaf d ws)
   where
     P : List ℕ → Type 0
     P vs = T (noLeaf d (map leafOf vs))
+
     go : (eqb d (deviceIn w) ≡ true) ⊎ (eqb d (deviceIn w) ≡ false) → T (noLeaf d (map leafOf (without d ws))) → P (cond (eqb d (deviceIn w)) (without d ws) (w ∷ without d ws))
     go (inl e) r = subst P (sym (cond-true (eqb d (deviceIn w)) (without d ws) (w ∷ without d ws) e)) r
     go (inr e) r =
@@ -129,7 +133,7 @@ steps-at {h} {i} {j} {k} {es} {fs} {gs} {hs} a b c d s =
     subst (λ (x : Hw). Steps x fs k hs) a (subst (λ (x : List Event). Steps h x k hs) b (subst (λ (x : Hw). Steps h es x hs) c (subst (λ (x : List Event). Steps h es j x) d s)))
 
 pub forgot-all : (d : ℕ) (p : Parts) (a b c e : List ℕ) → a ≡ without d (p .ups) → b ≡ without d (p .mids) → c ≡ without d (p .leaves) → e ≡ without d (p .flying) →
-  Goes p (keeping a b c e p) × Forgotten d (hwOf (keeping a b c e p))
+    Goes p (keeping a b c e p) × Forgotten d (hwOf (keeping a b c e p))
 forgot-all d p a b c e f g h i =
     let k = keeping-as p _ a _ b _ c _ e (sym f) (sym g) (sym h) (sym i) in
     (subst (λ (q : Parts). Goes p q) k (forget-goes d p), subst (λ (q : Parts). Forgotten d (hwOf q)) k (forget-forgets d p))

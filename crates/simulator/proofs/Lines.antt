@@ -78,18 +78,20 @@ module _ (p q : Parts) (n : Note) (c v k : ℕ) (fr : ℕ) (a : Noting p q n) (l
   store-pokes x d e b = (ran-to p q n _ a b (pokes c v d lc lv (space-is (Registers d) e) (rest _ _)), heard-at (seen-is p q n _ a b) (heard.storePokes c v k x d))
 
   pub load-loads : (f x : ℕ) → Frame f ≡ spaceOf fr (p .space) c v → x ≡ memOf (p .mem) f k → eventOf n ≡ Loaded c v k x → Ran p q × Heard (seenOf p) (line.Load c v k) (say.Loaded x) (seenOf q)
-  load-loads f x e m b =
-      ( ran-to p q n _ a b (subst (λ y. Runs (hwOf p) (seenOf p) (hwOf p) (Loaded c v k y ∷ seenOf p)) (sym m) (loads c v f k lc lv lk (space-is (Frame f) e) (rest _ _)))
-      , heard-at (seen-is p q n _ a b) (heard.loaded c v k x) )
+  load-loads f x e m b = (
+    ran-to p q n _ a b (subst (λ y. Runs (hwOf p) (seenOf p) (hwOf p) (Loaded c v k y ∷ seenOf p)) (sym m) (loads c v f k lc lv lk (space-is (Frame f) e) (rest _ _))),
+    heard-at (seen-is p q n _ a b) (heard.loaded c v k x),
+  )
 
   -- and then a word is written
   pub store-stores : (f x : ℕ) (gr : ℕ) (ws : List ℕ) → Frame f ≡ spaceOf fr (p .space) c v → eventOf n ≡ Stored c v k x → x < 18446744073709551616 → length (p .mem) ≡ 512 * p .frames → f < p .frames → gr ≡ q .frames →
-    ws ≡ set (q .mem) (512 * f + k) x → Ran p (written gr ws (q .left) q) × Heard (seenOf p) (line.Store c v k x) say.Stored (seenOf (written gr ws (q .left) q))
+      ws ≡ set (q .mem) (512 * f + k) x → Ran p (written gr ws (q .left) q) × Heard (seenOf p) (line.Store c v k x) say.Stored (seenOf (written gr ws (q .left) q))
   store-stores f x gr ws e b lx len lf eg ew =
-      let z = noted-written p q n (Stored c v k x) gr ws f k x a b len lf lk eg ew in
-      ( subst (λ (h : Hw). Runs (hwOf p) (seenOf p) h (seenOf (written gr ws (q .left) q))) (sym (z .0))
-          (subst (λ (es : List Event). Runs (hwOf p) (seenOf p) (withMem (put f k x (memOf (p .mem))) (hwOf p)) es) (sym (z .1)) (stores c v f k x lc lv lk lx (space-is (Frame f) e) (rest _ _)))
-      , heard-at (z .1) (heard.stored c v k x) )
+      let z = noted-written p q n (Stored c v k x) gr ws f k x a b len lf lk eg ew in (
+        subst (λ (h : Hw). Runs (hwOf p) (seenOf p) h (seenOf (written gr ws (q .left) q))) (sym (z .0))
+            (subst (λ (es : List Event). Runs (hwOf p) (seenOf p) (withMem (put f k x (memOf (p .mem))) (hwOf p)) es) (sym (z .1)) (stores c v f k x lc lv lk lx (space-is (Frame f) e) (rest _ _))),
+        heard-at (z .1) (heard.stored c v k x),
+      )
 
 -- a line out of range
 pub beyond-range : (p : Parts) (l : Line) → Ran p p × Heard (seenOf p) l (say.No 1) (seenOf p)
@@ -97,7 +99,7 @@ beyond-range p l = (rest (hwOf p) (seenOf p), heard.beyond l)
 
 -- a call is asked
 pub asked-comes : (p : Parts) (n : Note) (ns : List Note) (c : ℕ) (k : Call) → c < 32 → eventOf n ≡ Asked c k → ns ≡ n ∷ p .notes →
-  Comes (hwOf p) (seenOf p) (Some (c, k)) (allowed 2048 (hwOf p)) (map eventOf ns)
+    Comes (hwOf p) (seenOf p) (Some (c, k)) (allowed 2048 (hwOf p)) (map eventOf ns)
 asked-comes p n ns c k lc e f =
     subst (λ (es : List Event). Comes (hwOf p) (seenOf p) (Some (c, k)) (allowed 2048 (hwOf p)) es) (sym (ap (map eventOf) f ∙ ap (λ x. x ∷ seenOf p) e)) (comes c k lc (rest (hwOf p) (seenOf p)))
 

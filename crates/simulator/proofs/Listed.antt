@@ -90,7 +90,7 @@ found-at w xs n i l e = among-member w (newest 0 xs n) (subst (λ (y : ℕ). Lis
 
 -- one taken out
 pub newest-shifted : (xs ys : List ℕ) (n i : ℕ) → i < n → ((k : ℕ) → k < i → getD ys k 0 ≡ getD xs k 0) → ((k : ℕ) → i ≤ k → k < n - 1 → getD ys k 0 ≡ getD xs (k + 1) 0) →
-  newest 0 ys (n - 1) ≡ dropOne (n - 1 - i) (newest 0 xs n)
+    newest 0 ys (n - 1) ≡ dropOne (n - 1 - i) (newest 0 xs n)
 unfolding newest dropOne
 newest-shifted xs ys zero i l low high = absurd (omega arith)
 newest-shifted xs ys (suc n) i l low high = go (cases-eq i n) n refl (λ m. newest-shifted xs ys n i m low (λ k a b. high k a (omega arith)))
@@ -126,7 +126,7 @@ sifted-out d xs ys i k h e =
     h ∙ sym (without-more d xs i ∙ cond-true (eqb d (deviceIn (getD xs i 0))) _ _ (eq-eqb d (deviceIn (getD xs i 0)) e))
 
 pub sifted-in : (d : ℕ) (xs ys : List ℕ) (i k w : ℕ) → newest 0 ys k ≡ without d (newest 0 xs i) → (d ≡ deviceIn (getD xs i 0) → ⊥) → w ≡ getD xs i 0 → k < length ys →
-  newest 0 (set ys k w) (k + 1) ≡ without d (newest 0 xs (i + 1))
+    newest 0 (set ys k w) (k + 1) ≡ without d (newest 0 xs (i + 1))
 sifted-in d xs ys i k w h ne e l =
     let a = newest-push 0 ys k w l in
     let b = without-more d xs i ∙ cond-false (eqb d (deviceIn (getD xs i 0))) _ _ (ne-eqb d (deviceIn (getD xs i 0)) ne) in
@@ -143,6 +143,7 @@ moved-more i j xs ys h le l =
   where
     v : ℕ
     v = getD ys (j + 1) 0
+
     middle : (k : ℕ) → i ≤ k → k < j + 1 → (k ≡ j) ⊎ (k ≡ j → ⊥) → getD (set ys j v) k 0 ≡ getD xs (k + 1) 0
     middle k m p (inl e) = let a = getD-set-same ys j v 0 l in let b = h .2 (j + 1) (omega arith) in let d : v ≡ getD ys (j + 1) 0 = refl in cc
     middle k m p (inr e) = getD-set-other ys j k v 0 e ∙ h .1 k m (omega arith)
@@ -156,10 +157,11 @@ sifting-out d i k xs ys h e =
     (omega arith, sifted-out d xs ys i k (h .1) (sym e ∙ ap deviceIn (h .2 i (omega arith))), λ m l. h .2 m (omega arith))
 
 pub sifting-in : (d i k : ℕ) (xs ys : List ℕ) → Sifting d i k xs ys → (deviceIn (getD ys i 0) ≡ d → ⊥) → i < length ys → Sifting d (i + 1) (k + 1) xs (set ys k (getD ys i 0))
-sifting-in d i k xs ys h ne l =
-    ( omega arith
-    , sifted-in d xs ys i k (getD ys i 0) (h .1) (λ e. ne (sym (e ∙ ap deviceIn (sym (h .2 i (omega arith)))))) (h .2 i (omega arith)) (omega arith)
-    , λ m n. let q : m ≢ k = omega arith in getD-set-other ys k m (getD ys i 0) 0 q ∙ h .2 m (omega arith) )
+sifting-in d i k xs ys h ne l = (
+  omega arith,
+  sifted-in d xs ys i k (getD ys i 0) (h .1) (λ e. ne (sym (e ∙ ap deviceIn (sym (h .2 i (omega arith)))))) (h .2 i (omega arith)) (omega arith),
+  λ m n. let q : m ≢ k = omega arith in getD-set-other ys k m (getD ys i 0) 0 q ∙ h .2 m (omega arith),
+)
 
 -- keeping one more
 pub learnt-known : (w n m : ℕ) (xs : List ℕ) → among w xs ≡ true → xs ≡ learnt w n m xs
@@ -172,7 +174,7 @@ pub learnt-new : (w n m : ℕ) (xs : List ℕ) → among w xs ≡ false → n < 
 learnt-new w n m xs e l = sym (cond-false (among w xs) _ _ e ∙ cond-true (ltb n m) _ _ (lt-ltb n m l))
 
 pub learn-pushes : (w n : ℕ) (xs : List ℕ) → false ≡ among w (newest 0 xs n) → n < length xs →
-  (newest 0 (set xs n w) (n + 1) ≡ learnt w n (length xs) (newest 0 xs n)) × (true ≡ among w (newest 0 (set xs n w) (n + 1)))
+    (newest 0 (set xs n w) (n + 1) ≡ learnt w n (length xs) (newest 0 xs n)) × (true ≡ among w (newest 0 (set xs n w) (n + 1)))
 learn-pushes w n xs e l =
     let p = newest-push 0 xs n w l in
     (p ∙ learnt-new w n (length xs) (newest 0 xs n) (sym e) l, sym (ap (among w) p ∙ among-here w (newest 0 xs n)))

@@ -45,7 +45,7 @@ room-aside n ns ms count count' left len a e f l =
 
 -- one noted for an asking that was owed
 pub room-asking : (n : Note) (ns ms : List Note) (count count' left left' len : ℕ) → aside (eventOf n) ≡ true → ms ≡ n ∷ ns → count' ≡ count + 1 → left' + 1 ≡ left → count + left + owed (map eventOf ns) ≤ len →
-  count' + left' + owed (map eventOf ms) ≤ len
+    count' + left' + owed (map eventOf ms) ≤ len
 room-asking n ns ms count count' left left' len a e f q l =
     let o = ap (λ (us : List Note). owed (map eventOf us)) e ∙ aside-owed (eventOf n) (map eventOf ns) a in omega arith
 
@@ -89,7 +89,7 @@ room-asked n ns ms c k count count' len a e f l =
 
 -- one noted for an answer that was owed
 pub room-told : (n : Note) (ns ms : List Note) (c : ℕ) (k : Call) (b : Answer) (count count' left len : ℕ) → eventOf n ≡ Told c k b → ms ≡ n ∷ ns → count' ≡ count + 1 → owed (map eventOf ns) ≡ 1 → count + left + owed (map eventOf ns) ≤ len →
-  count' + left + owed (map eventOf ms) ≤ len
+    count' + left + owed (map eventOf ms) ≤ len
 unfolding owed
 room-told n ns ms c k b count count' left len a e f q l =
     let o : owed (map eventOf ms) ≡ 0 = ap (λ (us : List Note). owed (map eventOf us)) e ∙ ap (λ (x : Event). owed (x ∷ map eventOf ns)) a in omega arith

@@ -48,48 +48,55 @@ abbrev withFlying : List ℕ → Parts → Parts
 withFlying ws p = keeping (p .ups) (p .mids) (p .leaves) ws p
 
 pub up-goes : (p : Parts) (w n m d top : ℕ) (ws : List ℕ) → p .live ≡ true → d < length (p .devices) → top ≡ memOf (p .mem) 0 d → 0 < top → deviceIn w ≡ d → valueIn w ≡ top - 1 → ws ≡ learnt w n m (p .ups) →
-  Goes p (withUps ws p)
+    Goes p (withUps ws p)
 up-goes p w n m d top ws live ld et pt ed ev el = go (learnt-cases w n m (p .ups) ws el)
   where
     at : memOf (p .mem) 0 (deviceIn w) ≡ suc (valueIn w)
     at = let a : memOf (p .mem) 0 (deviceIn w) ≡ memOf (p .mem) 0 d = ap (memOf (p .mem) 0) ed in let b : suc (valueIn w) ≡ top = omega arith in cc
+
     go : (ws ≡ p .ups) ⊎ (ws ≡ w ∷ p .ups) → Goes p (withUps ws p)
     go (inl e) = subst (λ (us : List ℕ). Goes p (withUps us p)) (sym e) (none (hwOf p) (seenOf p))
     go (inr e) = subst (λ (us : List ℕ). Goes p (withUps us p)) (sym e) (more (up (hwOf p) (deviceIn w) (valueIn w) (truly live) (omega arith) at) (none _ _))
 
 pub mid-goes : (p : Parts) (u w n m s low : ℕ) (ws : List ℕ) → List·Memᴰ u (p .ups) → s < 512 → low ≡ memOf (p .mem) (valueIn u) s → 0 < low → deviceIn w ≡ deviceIn u → placeIn w ≡ s → valueIn w ≡ low - 1 →
-  ws ≡ learnt w n m (p .mids) → Goes p (withMids ws p)
+    ws ≡ learnt w n m (p .mids) → Goes p (withMids ws p)
 mid-goes p u w n m s low ws mu ls et pt ed ep ev el = go (learnt-cases w n m (p .mids) ws el)
   where
     at : memOf (p .mem) (valueIn u) s ≡ suc (valueIn w)
     at = omega arith
+
     new : Mid
     new = record { dev = deviceIn u; slot = s; table = valueIn w }
+
     same : new ≡ midOf w
     same = λ t. record { dev = sym ed t; slot = sym ep t; table = valueIn w }
+
     go : (ws ≡ p .mids) ⊎ (ws ≡ w ∷ p .mids) → Goes p (withMids ws p)
     go (inl e) = subst (λ (us : List ℕ). Goes p (withMids us p)) (sym e) (none (hwOf p) (seenOf p))
     go (inr e) =
         subst (λ (us : List ℕ). Goes p (withMids us p)) (sym e)
         (subst (λ (x : Mid). Steps (hwOf p) (seenOf p) (known (hwOf p .ups) (x ∷ hwOf p .mids) (hwOf p .leaves) (hwOf p .flying) (hwOf p)) (seenOf p)) same
-          (more (mid (hwOf p) (upOf u) s (valueIn w) (mem-map upOf mu) ls at) (none _ _)))
+        (more (mid (hwOf p) (upOf u) s (valueIn w) (mem-map upOf mu) ls at) (none _ _)))
 
 pub leaf-goes : (p : Parts) (m w n r k e : ℕ) (ws : List ℕ) → List·Memᴰ m (p .mids) → k < 512 → e ≡ memOf (p .mem) (valueIn m) k → 0 < e → deviceIn w ≡ deviceIn m → placeIn w ≡ 512 * placeIn m + k → valueIn w ≡ e →
-  ws ≡ learnt w n r (p .leaves) → Goes p (withLeaves ws p)
+    ws ≡ learnt w n r (p .leaves) → Goes p (withLeaves ws p)
 leaf-goes p m w n r k e ws mm lk et pt ed ep ev el = go (learnt-cases w n r (p .leaves) ws el)
   where
     new : Leaf
     new = record { dev = deviceIn m; page = 512 * placeIn m + k; entry = memOf (p .mem) (valueIn m) k }
+
     value : memOf (p .mem) (valueIn m) k ≡ valueIn w
     value = sym (ev ∙ et)
+
     same : new ≡ leafOf w
     same = λ t. record { dev = sym ed t; page = sym ep t; entry = value t }
+
     go : (ws ≡ p .leaves) ⊎ (ws ≡ w ∷ p .leaves) → Goes p (withLeaves ws p)
     go (inl a) = subst (λ (us : List ℕ). Goes p (withLeaves us p)) (sym a) (none (hwOf p) (seenOf p))
     go (inr a) =
         subst (λ (us : List ℕ). Goes p (withLeaves us p)) (sym a)
         (subst (λ (x : Leaf). Steps (hwOf p) (seenOf p) (known (hwOf p .ups) (hwOf p .mids) (x ∷ hwOf p .leaves) (hwOf p .flying) (hwOf p)) (seenOf p)) same
-          (more (leaf (hwOf p) (midOf m) k (mem-map midOf mm) lk (omega arith)) (none _ _)))
+        (more (leaf (hwOf p) (midOf m) k (mem-map midOf mm) lk (omega arith)) (none _ _)))
 
 pub fly-goes : (p : Parts) (l n m : ℕ) (ws : List ℕ) → List·Memᴰ l (p .leaves) → ws ≡ learnt l n m (p .flying) → Goes p (withFlying ws p)
 fly-goes p l n m ws ml el = go (learnt-cases l n m (p .flying) ws el)

@@ -19,6 +19,7 @@ mem-past ws n f k e l = go (ltb k 512)
   where
     g : 0 ≡ getD ws (512 * f + k) 0
     g = sym (getD-past ws (512 * f + k) 0 (omega arith))
+
     go : (b : Bool) → 0 ≡ cond b (getD ws (512 * f + k) 0) 0
     go true = g
     go false = refl
@@ -29,6 +30,7 @@ mem-set ws n f k x e lf lk g j = by (cases-lt j 512) (cases-eq g f) (cases-eq j 
   where
     i : ℕ
     i = 512 * f + k
+
     by : (j < 512) ⊎ (512 ≤ j) → (g ≡ f) ⊎ (g ≡ f → ⊥) → (j ≡ k) ⊎ (j ≡ k → ⊥) → memOf (set ws i x) g j ≡ cond (eqb g f && eqb j k) x (memOf ws g j)
     by (inl l) (inl a) (inl b) =
         let t = lt-ltb j 512 l in
@@ -58,9 +60,11 @@ space-set n ws c v w e lc lv b u = by (cases-lt b 32) (cases-lt u 1024) (cases-e
   where
     i : ℕ
     i = 1024 * c + v
+
     and-false : (d : Bool) → (d && false) ≡ false
     and-false true = refl
     and-false false = refl
+
     by : (b < 32) ⊎ (32 ≤ b) → (u < 1024) ⊎ (1024 ≤ u) → (b ≡ c) ⊎ (b ≡ c → ⊥) → (u ≡ v) ⊎ (u ≡ v → ⊥) → spaceOf n (set ws i w) b u ≡ cond (eqb b c && eqb u v) (shownOf n w) (spaceOf n ws b u)
     by (inl l) (inl m) (inl p) (inl q) =
         let s = getD-set-same ws i w 0 (omega arith) in

@@ -17,7 +17,7 @@ blank = record { kind = 0; who = 0; a = 0; b = 0; c = 0; d = 0; x = 0 }
 abbrev pub askedOf : Note → Call
 askedOf n =
     cond (eqb (n .d) 0) (Get (n .a)) (cond (eqb (n .d) 1) (Free (n .a)) (cond (eqb (n .d) 2) (Give (n .a) (n .b) (n .c)) (cond (eqb (n .d) 3) (Open (n .a)) (cond (eqb (n .d) 4) (Close (n .a))
-      (cond (eqb (n .d) 5) (Regs (n .a) (n .b)) (cond (eqb (n .d) 6) (Lend (n .a) (n .b) (n .c) false) (cond (eqb (n .d) 7) (Lend (n .a) (n .b) (n .c) true) (cond (eqb (n .d) 8) (Recall (n .a)) (End (n .a))))))))))
+    (cond (eqb (n .d) 5) (Regs (n .a) (n .b)) (cond (eqb (n .d) 6) (Lend (n .a) (n .b) (n .c) false) (cond (eqb (n .d) 7) (Lend (n .a) (n .b) (n .c) true) (cond (eqb (n .d) 8) (Recall (n .a)) (End (n .a))))))))))
 
 abbrev pub answerOf : ℕ → Answer
 answerOf x = cond (eqb x 0) Done (cond (eqb x 1) Later (No (x - 2)))
@@ -25,9 +25,9 @@ answerOf x = cond (eqb x 0) Done (cond (eqb x 1) Later (No (x - 2)))
 abbrev pub eventOf : Note → Event
 eventOf n =
     cond (eqb (n .kind) 0) (Asked (n .who) (askedOf n)) (cond (eqb (n .kind) 1) (Told (n .who) (askedOf n) (answerOf (n .x))) (cond (eqb (n .kind) 2) (Loaded (n .who) (n .a) (n .b) (n .x))
-      (cond (eqb (n .kind) 3) (Stored (n .who) (n .a) (n .b) (n .x)) (cond (eqb (n .kind) 4) (Faulted (n .who) (n .a)) (cond (eqb (n .kind) 5) (Poked (n .who) (n .a) (n .b))
-        (cond (eqb (n .kind) 6) (TookFrom (n .who) (n .a) (n .b) (n .c) (n .x)) (cond (eqb (n .kind) 7) (PutInto (n .who) (n .a) (n .b) (n .c) (n .x))
-          (cond (eqb (n .kind) 8) (Missed (n .who) (n .a) (eqb (n .b) 1)) (Drained (n .who) (eqb (n .a) 1))))))))))
+    (cond (eqb (n .kind) 3) (Stored (n .who) (n .a) (n .b) (n .x)) (cond (eqb (n .kind) 4) (Faulted (n .who) (n .a)) (cond (eqb (n .kind) 5) (Poked (n .who) (n .a) (n .b))
+    (cond (eqb (n .kind) 6) (TookFrom (n .who) (n .a) (n .b) (n .c) (n .x)) (cond (eqb (n .kind) 7) (PutInto (n .who) (n .a) (n .b) (n .c) (n .x))
+    (cond (eqb (n .kind) 8) (Missed (n .who) (n .a) (eqb (n .b) 1)) (Drained (n .who) (eqb (n .a) 1))))))))))
 
 -- is it neither asking nor answering
 unfoldable pub aside : Event → Bool

@@ -3,6 +3,7 @@ ghost use mathlib.Core.Path.{_≡_};
 ghost use Prim.Native.Nat.{_+_, _*_, _/_, _%_, _^_, _<_};
 
 const FACTOR: u64 = 6364136223846793005;
+
 const STEP: u64 = 1442695040888963407;
 
 // Without a seed nothing happens by itself.
@@ -14,11 +15,17 @@ pub struct Dice {
 
 impl Dice {
     pub fn none() -> Self {
-        Dice { seeded: false, state: 0 }
+        Dice {
+            seeded: false,
+            state: 0,
+        }
     }
 
     pub fn from_seed(seed: u64) -> Self {
-        Dice { seeded: true, state: seed }
+        Dice {
+            seeded: true,
+            state: seed,
+        }
     }
 
     pub fn is_seeded(&self) -> bool {

@@ -21,7 +21,10 @@ impl<'a> Kept<'a> {
     pub fn new(words: &'a mut [u64]) -> Self
         ensures { λ r. ⌜ newest 0 (now (r .words .all)) (r .count) ≡ [] ⌝ ∗ ⌜ r .count ≡ 0 ⌝ }
     {
-        Kept { words: Words { all: words }, count: 0 }
+        Kept {
+            words: Words { all: words },
+            count: 0,
+        }
     }
 
     pub fn count(&self) -> usize

@@ -13,9 +13,9 @@ use crate::ends::Script;
 use crate::lent::Lent;
 use crate::lent::Unfit;
 use crate::lent::check;
+use crate::replies::prints;
 use crate::rows::Device;
 use crate::rows::Note;
-use crate::replies::prints;
 use crate::sim::Ended;
 use crate::sim::Sim;
 use crate::sim::SimMachine;
@@ -61,7 +61,18 @@ pub fn play<S: Script>(board: &mut Board, room: &mut [u64], script: &mut S) -> b
 }
 
 // The same on what is lent, if a machine can be made of it.
-pub fn play_on<'a, S: Script>(memory: &'a mut [u64], spaces: &'a mut [u64], ups: &'a mut [u64], mids: &'a mut [u64], leaves: &'a mut [u64], flying: &'a mut [u64], log: &'a mut [Note], devices: &'a [Device], room: &mut [u64], script: &mut S) -> Result<bool, Unfit> {
+pub fn play_on<'a, S: Script>(
+    memory: &'a mut [u64],
+    spaces: &'a mut [u64],
+    ups: &'a mut [u64],
+    mids: &'a mut [u64],
+    leaves: &'a mut [u64],
+    flying: &'a mut [u64],
+    log: &'a mut [Note],
+    devices: &'a [Device],
+    room: &mut [u64],
+    script: &mut S,
+) -> Result<bool, Unfit> {
     check(memory.len(), spaces.len(), devices, log.len())?;
     if room.len() < 65536 + memory.len() / 256 {
         return Err(Unfit::Room);

@@ -28,14 +28,23 @@ pub struct Note {
 }
 
 const ASKED: u32 = 0;
+
 const TOLD: u32 = 1;
+
 const LOADED: u32 = 2;
+
 const STORED: u32 = 3;
+
 const FAULTED: u32 = 4;
+
 const POKED: u32 = 5;
+
 const TOOK: u32 = 6;
+
 const PUT: u32 = 7;
+
 const MISSED: u32 = 8;
+
 const DRAINED: u32 = 9;
 
 impl Note {
@@ -66,7 +75,15 @@ impl Note {
             Call::Recall { v } => (8, v, 0, 0),
             Call::End { who } => (9, who, 0, 0),
         };
-        Note { kind, who, a, b, c, d, x }
+        Note {
+            kind,
+            who,
+            a,
+            b,
+            c,
+            d,
+            x,
+        }
     }
 
     pub fn asked(who: u32, call: Call) -> Note
@@ -89,48 +106,112 @@ impl Note {
     pub fn loaded(who: u32, v: u32, word: u32, x: u64) -> Note
         ensures { λ r. ⌜ eventOf r ≡ Loaded who v word x ⌝ }
     {
-        Note { kind: LOADED, who, a: v, b: word, c: 0, d: 0, x }
+        Note {
+            kind: LOADED,
+            who,
+            a: v,
+            b: word,
+            c: 0,
+            d: 0,
+            x,
+        }
     }
 
     pub fn stored(who: u32, v: u32, word: u32, x: u64) -> Note
         ensures { λ r. ⌜ eventOf r ≡ Stored who v word x ⌝ }
     {
-        Note { kind: STORED, who, a: v, b: word, c: 0, d: 0, x }
+        Note {
+            kind: STORED,
+            who,
+            a: v,
+            b: word,
+            c: 0,
+            d: 0,
+            x,
+        }
     }
 
     pub fn faulted(who: u32, v: u32) -> Note
         ensures { λ r. ⌜ eventOf r ≡ Faulted who v ⌝ }
     {
-        Note { kind: FAULTED, who, a: v, b: 0, c: 0, d: 0, x: 0 }
+        Note {
+            kind: FAULTED,
+            who,
+            a: v,
+            b: 0,
+            c: 0,
+            d: 0,
+            x: 0,
+        }
     }
 
     pub fn poked(who: u32, v: u32, d: u32) -> Note
         ensures { λ r. ⌜ eventOf r ≡ Poked who v d ⌝ }
     {
-        Note { kind: POKED, who, a: v, b: d, c: 0, d: 0, x: 0 }
+        Note {
+            kind: POKED,
+            who,
+            a: v,
+            b: d,
+            c: 0,
+            d: 0,
+            x: 0,
+        }
     }
 
     pub fn took(d: u32, p: u32, frame: u32, word: u32, x: u64) -> Note
         ensures { λ r. ⌜ eventOf r ≡ TookFrom d p frame word x ⌝ }
     {
-        Note { kind: TOOK, who: d, a: p, b: frame, c: word, d: 0, x }
+        Note {
+            kind: TOOK,
+            who: d,
+            a: p,
+            b: frame,
+            c: word,
+            d: 0,
+            x,
+        }
     }
 
     pub fn put(d: u32, p: u32, frame: u32, word: u32, x: u64) -> Note
         ensures { λ r. ⌜ eventOf r ≡ PutInto d p frame word x ⌝ }
     {
-        Note { kind: PUT, who: d, a: p, b: frame, c: word, d: 0, x }
+        Note {
+            kind: PUT,
+            who: d,
+            a: p,
+            b: frame,
+            c: word,
+            d: 0,
+            x,
+        }
     }
 
     pub fn missed(d: u32, p: u32, writes: bool) -> Note
         ensures { λ r. ⌜ eventOf r ≡ Missed d p writes ⌝ }
     {
-        Note { kind: MISSED, who: d, a: p, b: if writes { 1 } else { 0 }, c: 0, d: 0, x: 0 }
+        Note {
+            kind: MISSED,
+            who: d,
+            a: p,
+            b: if writes { 1 } else { 0 },
+            c: 0,
+            d: 0,
+            x: 0,
+        }
     }
 
     pub fn drained(d: u32, said: bool) -> Note
         ensures { λ r. ⌜ eventOf r ≡ Drained d said ⌝ }
     {
-        Note { kind: DRAINED, who: d, a: if said { 1 } else { 0 }, b: 0, c: 0, d: 0, x: 0 }
+        Note {
+            kind: DRAINED,
+            who: d,
+            a: if said { 1 } else { 0 },
+            b: 0,
+            c: 0,
+            d: 0,
+            x: 0,
+        }
     }
 }

@@ -96,7 +96,8 @@ impl<'a> Board<'a> {
         if let Some(k) = self.memory.first_set(m % PLACE, from as u32) {
             let entry = self.memory.word(m % PLACE, k);
             if entry <= 2 * self.memory.frames() as u64 {
-                let _ = self.leaves.learn(word_of(m / DEVICE, 512 * slot as u32 + k, entry));
+                let _ = self.leaves
+                    .learn(word_of(m / DEVICE, 512 * slot as u32 + k, entry));
             }
         }
     }
@@ -166,7 +167,12 @@ impl<'a> Board<'a> {
         let i = self.dice.below(n as u64);
         let l = self.flying.at(i as usize);
         let k = self.dice.below(512) as u32;
-        let _ = self.take_at((l / DEVICE) as u32, (l / PLACE % PLACE) as u32, l % PLACE, k);
+        let _ = self.take_at(
+            (l / DEVICE) as u32,
+            (l / PLACE % PLACE) as u32,
+            l % PLACE,
+            k,
+        );
     }
 
     // An access under way writes, if its entry lets it.
@@ -181,7 +187,13 @@ impl<'a> Board<'a> {
         let l = self.flying.at(i as usize);
         let k = self.dice.below(512) as u32;
         let x = self.dice.word();
-        let _ = self.put_at((l / DEVICE) as u32, (l / PLACE % PLACE) as u32, l % PLACE, k, x);
+        let _ = self.put_at(
+            (l / DEVICE) as u32,
+            (l / PLACE % PLACE) as u32,
+            l % PLACE,
+            k,
+            x,
+        );
     }
 
     // A device finds nothing at a page.

@@ -57,6 +57,10 @@ impl<'a> Board<'a> {
         if entry == 0 || entry > 2 * frames {
             return None;
         }
-        Some(Way { top: top - 1, low: low - 1, entry })
+        Some(Way {
+            top: top - 1,
+            low: low - 1,
+            entry,
+        })
     }
 }

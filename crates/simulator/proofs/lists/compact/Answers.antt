@@ -9,6 +9,7 @@ loop-i-holds c = (omega arith, sifted-none (c .args .d) (c .args .words .now) (c
 
 pub loop-i-again : need.loop-i-again
 loop-i-again c =
-    elim (c .if-w-d .came)
-      [ then-w-d w ↦ sifting-at (c .args .d) _ _ _ (c .args .words .now) _ _ (w .k-is) (w .words-is) (sifting-in (c .args .d) (c .loop-i .i) (c .loop-i .k) (c .args .words .now) (c .loop-i .words) (c .loop-i .inv) (w .if-w-d .taken) (omega arith))
-      | else-w-d w ↦ sifting-at (c .args .d) _ _ _ (c .args .words .now) _ _ (w .k-is) (w .words-is) (sifting-out (c .args .d) (c .loop-i .i) (c .loop-i .k) (c .args .words .now) (c .loop-i .words) (c .loop-i .inv) (w .if-w-d .left)) ]
+    elim (c .if-w-d .came) [
+      | then-w-d w ↦ sifting-at (c .args .d) _ _ _ (c .args .words .now) _ _ (w .k-is) (w .words-is) (sifting-in (c .args .d) (c .loop-i .i) (c .loop-i .k) (c .args .words .now) (c .loop-i .words) (c .loop-i .inv) (w .if-w-d .taken) (omega arith))
+      | else-w-d w ↦ sifting-at (c .args .d) _ _ _ (c .args .words .now) _ _ (w .k-is) (w .words-is) (sifting-out (c .args .d) (c .loop-i .i) (c .loop-i .k) (c .args .words .now) (c .loop-i .words) (c .loop-i .inv) (w .if-w-d .left))
+    ]

@@ -19,6 +19,7 @@ ghost-self c =
     (c .args .self .now .words, (c .args .self .now .frames, (c .args .self .now .places, (c .args .self .now .few, (c .args .self .now .uppers, (c .args .self .now .lowers, (c .args .self .now .pages, (c .args .self .now .accesses, (room-asked (c .asked .result) (partsOf (c .args .self .now) .notes) _ (c .args .who) (c .call-of-call .result) (c .args .self .now .log .count) _ _ (c .asked .ensures) (c .add .ensures .list) (c .add .ensures .count) (omega arith), tt)))))))))
 
 pub returns : need.returns
-returns c =
-    ( asked-comes (partsOf (c .args .self .now)) (c .asked .result) _ (c .args .who) (c .call-of-call .result) (omega arith) (c .asked .ensures) (c .add .ensures .list)
-    , (c .args .request, refl, c .call-of-call .ensures) )
+returns c = (
+  asked-comes (partsOf (c .args .self .now)) (c .asked .result) _ (c .args .who) (c .call-of-call .result) (omega arith) (c .asked .ensures) (c .add .ensures .list),
+  (c .args .request, refl, c .call-of-call .ensures),
+)
