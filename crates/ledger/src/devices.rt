@@ -7,6 +7,7 @@ ghost use Rattle.ledger.specs.Room.{deviceOf, topOf};
 ghost use Rattle.ledger.specs.View.{viewOf, withDevice, withTop};
 use crate::Device;
 use crate::layout::DEVICE_STATES;
+use crate::record::number;
 
 pub fn device_at(room: &[u64], d: u32) -> Device
     requires { ⌜ 65536 ≤ length (now room) ⌝ ∗ ⌜ d < 32 ⌝ }
@@ -27,7 +28,7 @@ pub fn top_at(room: &[u64], d: u32) -> u32
     requires { ⌜ 65536 ≤ length (now room) ⌝ ∗ ⌜ d < 32 ⌝ }
     ensures { λ r. ⌜ r ≡ topOf (now (room .entry)) d ⌝ }
 {
-    (room[DEVICE_STATES + 2 * d as usize + 1] % 131072) as u32
+    number(room[DEVICE_STATES + 2 * d as usize + 1])
 }
 
 pub fn set_top(room: &mut [u64], d: u32, f: u32)

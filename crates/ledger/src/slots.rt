@@ -5,12 +5,13 @@ ghost use lib.ListN.{length};
 ghost use Rattle.ledger.specs.Room.{lowOf};
 ghost use Rattle.ledger.specs.View.{viewOf, withLow};
 use crate::layout::LOWER_TABLES;
+use crate::record::number;
 
 pub fn low_at(room: &[u64], d: u32, slot: u32) -> u32
     requires { ⌜ 65536 ≤ length (now room) ⌝ ∗ ⌜ d < 32 ⌝ ∗ ⌜ slot < 512 ⌝ }
     ensures { λ r. ⌜ r ≡ lowOf (now (room .entry)) d slot ⌝ }
 {
-    (room[LOWER_TABLES + d as usize * 512 + slot as usize] % 131072) as u32
+    number(room[LOWER_TABLES + d as usize * 512 + slot as usize])
 }
 
 pub fn set_low(room: &mut [u64], d: u32, slot: u32, x: u32)
