@@ -176,3 +176,37 @@ module _ (r : List ℕ) (n x : ℕ) (long : 65536 ≤ length r) where
       here : (a : ℕ) → (a ≡ d) ⊎ (a ≡ d → ⊥) → topOf (set r (49152 + 2 * d + 1) x) a ≡ cond (eqb a d) y (topOf r a)
       here a (inl q) = rw (eq-eqb a d q, q, lt-ltb d 32 hd, getD-set-same r (49152 + 2 * d + 1) x 0 (omega arith)) e
       here a (inr q) = rw (ne-eqb a d q) (guarded (ltb a 32) _ _ _ (λ t. ap numberFrom (kept r _ x n (49152 + 2 * a + 1) (λ z. q (omega arith)))))
+
+-- The same where a word's number is given by an equation, as `layout` gives it.
+module _ (r : List ℕ) (at : ℕ) where
+  pub read-place-at : (c v : ℕ) → at ≡ c * 1024 + v → c < 32 → v < 1024 → placeFrom (getD r at 0) ≡ placeOf r c v
+  read-place-at c v e a b = ap (λ (k : ℕ). placeFrom (getD r k 0)) e ∙ read-place r c v a b
+
+  pub read-device-at : (d : ℕ) → at ≡ 49152 + 2 * d → d < 32 → deviceFrom (getD r at 0) ≡ deviceOf r d
+  read-device-at d e a = ap (λ (k : ℕ). deviceFrom (getD r k 0)) e ∙ read-device r d a
+
+  pub read-top-at : (d : ℕ) → at ≡ 49152 + 2 * d → d < 32 → numberFrom (getD r (at + 1) 0) ≡ topOf r d
+  read-top-at d e a = ap (λ (k : ℕ). numberFrom (getD r (k + 1) 0)) e ∙ read-top r d a
+
+  pub read-low-at : (d i : ℕ) → at ≡ 32768 + d * 512 + i → d < 32 → i < 512 → numberFrom (getD r at 0) ≡ lowOf r d i
+  read-low-at d i e a b = ap (λ (k : ℕ). numberFrom (getD r k 0)) e ∙ read-low r d i a b
+
+  pub read-use-at : (f : ℕ) → at ≡ 65536 + 2 * f → useFrom (getD r at 0) (getD r (at + 1) 0) ≡ useOf r f
+  unfolding useOf
+  read-use-at f e = ap (λ (k : ℕ). useFrom (getD r k 0) (getD r (k + 1) 0)) e
+
+  pub wrote-use-at : (f lo hi n : ℕ) (u : Use) → at ≡ 65536 + 2 * f → 65537 + 2 * f < length r → f < n → useFrom lo hi ≡ u → viewOf n (set (set r at lo) (at + 1) hi) ≡ withUse f u (viewOf n r)
+  wrote-use-at f lo hi n u e fits l w = ap (λ (k : ℕ). viewOf n (set (set r k lo) (k + 1) hi)) e ∙ wrote-use r f lo hi fits n u l w
+
+  module _ (n x : ℕ) (long : 65536 ≤ length r) where
+    pub wrote-place-at : (c v : ℕ) (p : Place) → at ≡ c * 1024 + v → c < 32 → v < 1024 → placeFrom x ≡ p → viewOf n (set r at x) ≡ withPlace c v p (viewOf n r)
+    wrote-place-at c v p e a b w = ap (λ (k : ℕ). viewOf n (set r k x)) e ∙ wrote-place r n x long c v p a b w
+
+    pub wrote-low-at : (d i y : ℕ) → at ≡ 32768 + d * 512 + i → d < 32 → i < 512 → numberFrom x ≡ y → viewOf n (set r at x) ≡ withLow d i y (viewOf n r)
+    wrote-low-at d i y e a b w = ap (λ (k : ℕ). viewOf n (set r k x)) e ∙ wrote-low r n x long d i y a b w
+
+    pub wrote-device-at : (d : ℕ) (y : Device) → at ≡ 49152 + 2 * d → d < 32 → deviceFrom x ≡ y → viewOf n (set r at x) ≡ withDevice d y (viewOf n r)
+    wrote-device-at d y e a w = ap (λ (k : ℕ). viewOf n (set r k x)) e ∙ wrote-device r n x long d y a w
+
+    pub wrote-top-at : (d y : ℕ) → at ≡ 49152 + 2 * d → d < 32 → numberFrom x ≡ y → viewOf n (set r (at + 1) x) ≡ withTop d y (viewOf n r)
+    wrote-top-at d y e a w = ap (λ (k : ℕ). viewOf n (set r (k + 1) x)) e ∙ wrote-top r n x long d y a w

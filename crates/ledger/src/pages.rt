@@ -26,11 +26,7 @@ pub fn new_page(room: &mut [u64], frames: u32, who: u32, v: u32, f: u32)
     ensures view { λ _. ⌜ viewOf frames (now (room .exit)) ≡ newPage who v f (viewOf frames (now (room .entry))) ⌝ }
     ensures consistent { λ _. ⌜ Consistent frames (now (room .exit)) ⌝ }
 {
-    let page = Use::PageOf {
-        who,
-        place: v,
-        loan: Loan::Home,
-    };
+    let page = page_of(who, v, Loan::Home);
     settle(room, frames, who, v, f, page, Place::Page(f));
 }
 
@@ -77,13 +73,16 @@ pub fn set_loan(room: &mut [u64], frames: u32, who: u32, v: u32, f: u32, loan: L
     ensures view { λ _. ⌜ viewOf frames (now (room .exit)) ≡ withLoan who v f loan (viewOf frames (now (room .entry))) ⌝ }
     ensures consistent { λ _. ⌜ Consistent frames (now (room .exit)) ⌝ }
 {
-    set_use(
-        room,
-        f,
-        Use::PageOf {
-            who,
-            place: v,
-            loan,
-        },
-    );
+    let page = page_of(who, v, loan);
+    set_use(room, f, page);
+}
+
+fn page_of(who: u32, v: u32, loan: Loan) -> Use
+    ensures { λ r. ⌜ r ≡ PageOf who v loan ⌝ }
+{
+    Use::PageOf {
+        who,
+        place: v,
+        loan,
+    }
 }

@@ -19,7 +19,8 @@ use crate::searches::find_idle;
 use crate::searches::page_taken;
 use crate::setup::set_up;
 use crate::slots::low_at;
-use crate::sweeps::sweep_loans;
+use crate::sweeps::home_all;
+use crate::sweeps::leave_all;
 use crate::tables::add_lower;
 use crate::tables::open_device;
 use std::test::*;
@@ -325,7 +326,11 @@ fn swept(room: &mut [u64], frames: u32, home: bool) -> bool
     let Device::Opened(3) = device_at(room, 2) else {
         return false;
     };
-    sweep_loans(room, frames, 3, 2, home);
+    if home {
+        home_all(room, frames, 3, 2);
+    } else {
+        leave_all(room, frames, 3, 2);
+    }
     true
 }
 
