@@ -4,7 +4,7 @@ use lib.Dec.{T}
 use mathlib.Core.Path.{_≡_, sym, subst}
 use mathlib.Core.Bool.{not}
 use Rattle.house.specs.declared.Call.{Call}
-use Rattle.house.specs.declared.Call.the-variants.{Get, Free, Open, Recall, Give, Regs, Close}
+use Rattle.house.specs.declared.Call.the-variants.{Get, Free, Open, Recall, Give, Regs, Close, End}
 use Rattle.house.specs.Promise.{can}
 
 pub get-built : (v : ℕ) → T (can (Get v))
@@ -31,3 +31,6 @@ recall-built v = tt
 
 pub close-built : (d : ℕ) → T (can (Close d))
 close-built d = tt
+
+pub end-built : (w : ℕ) → T (can (End w))
+end-built w = tt

@@ -23,7 +23,7 @@ can (Close d) = true
 can (Regs d v) = true
 can (Lend v d p w) = false
 can (Recall v) = true
-can (End w) = false
+can (End w) = true
 
 -- the core stays built
 abbrev pub CoreBuilt : Type 0

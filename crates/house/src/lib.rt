@@ -14,6 +14,7 @@ ghost use Rattle.house.specs.Serving.{Keeps, Begins};
 mod closing;
 mod devices;
 mod drains;
+mod ending;
 mod frames;
 mod operations;
 mod pages;
@@ -25,6 +26,7 @@ pub mod theorems;
 use closing::close;
 use devices::map_registers;
 use devices::open_device;
+use ending::end;
 use frames::clear;
 use ledger::setup::set_up;
 use pages::free;
@@ -202,7 +204,7 @@ impl Keeper {
             Call::Regs { d, v } => map_registers(w, room, who, d, v),
             Call::Lend { .. } => Err(Refusal::NotBuilt),
             Call::Recall { v } => recall(w, room, who, v),
-            Call::End { .. } => Err(Refusal::NotBuilt),
+            Call::End { who: p } => end(w, room, who, p),
         }
     }
 }

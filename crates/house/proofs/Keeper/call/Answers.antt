@@ -5,6 +5,3 @@ use Rattle.house.proofs.Keeper.call.Needs as need
 
 pub returns-in-Lend : need.returns-in-Lend
 returns-in-Lend g c = record { told = keeps-unbuilt (unbuilt (c .in-Lend .is) tt) (c .pre .begins); refused = (refl, refl, refl, refl); accepted = tt }
-
-pub returns-in-End : need.returns-in-End
-returns-in-End g c = record { told = keeps-unbuilt (unbuilt (c .in-End .is) tt) (c .pre .begins); refused = (refl, refl, refl, refl); accepted = tt }
