@@ -34,7 +34,7 @@ use Rattle.house.proofs.Shutting.{shut-state, shutting-state}
 meant-choice : {A B : Type 0} (m : A → B) (b : Bool) (x y : A) → cond b (m x) (m y) ≡ m (cond b x y)
 meant-choice m b x y = meant-change m b x y (m y) refl
 
-same-choice : {A : Type 0} (b : Bool) (x : A) → cond b x x ≡ x
+pub same-choice : {A : Type 0} (b : Bool) (x : A) → cond b x x ≡ x
 same-choice true x = refl
 same-choice false x = refl
 

@@ -46,3 +46,9 @@ pub mod Cutting
 pub mod Unmapped
 pub mod Closed
 pub mod Closes
+pub mod Beyond
+pub mod ClosedViews
+pub mod Bared
+pub mod ClosedTurns
+pub mod Settled
+pub mod Ends

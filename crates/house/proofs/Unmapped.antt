@@ -99,3 +99,16 @@ count-most q (suc n) = let k = count-most q n in let o = one-most (q n) in omega
 -- as long as places are left there are operations left
 pub still-left : {c : ℕ} {q : ℕ → Bool} {h : Hw} {es : List Event} {n : ℕ} {j : Hw} {gs : List Event} (m : ℕ) → Hid c q h es n j gs → m ≤ h .left → n < m → 0 < j .left
 still-left {q = q} {n = n} m a l lt = let k = count-most q n in omega (arith, a .left)
+
+pub count-rises : (q : ℕ → Bool) (n m : ℕ) → n ≤ m → count q n ≤ count q m
+unfolding count
+count-rises q n zero l = let z : n ≡ 0 = omega arith in rw z (omega arith)
+count-rises q n (suc m) l = ⊎-elim (λ (e : n ≡ suc m). rw e (omega arith)) (λ (d : n ≡ suc m → ⊥). let k = count-rises q n m (omega (arith, d)) in omega arith) (cases-eq n (suc m))
+
+-- there is one left for each that passes
+pub left-for : {c : ℕ} {q : ℕ → Bool} {h : Hw} {es : List Event} {n : ℕ} {j : Hw} {gs : List Event} (m : ℕ) → Hid c q h es n j gs → count q m ≤ h .left → n < m → q n ≡ true → 0 < j .left
+unfolding count
+left-for {q = q} {n = n} m a l lt e =
+    let k = count-rises q (suc n) m (omega arith) in
+    let o : oneIf (q n) ≡ 1 = ap oneIf e in
+    omega (arith, a .left)

@@ -153,3 +153,15 @@ CloseRefused v n c d Held = ⊥
 CloseRefused v n c d NoFrame = ⊥
 CloseRefused v n c d NotPermitted = ⊥
 CloseRefused v n c d NotBuilt = ⊥
+
+-- c ends program p
+abbrev pub EndRefused : ℕ → ℕ → Refusal → Type 0
+EndRefused c p OutOfRange = 32 ≤ p
+EndRefused c p NoPage = ⊥
+EndRefused c p Occupied = ⊥
+EndRefused c p WrongLoan = ⊥
+EndRefused c p NotYours = ⊥
+EndRefused c p Held = ⊥
+EndRefused c p NoFrame = ⊥
+EndRefused c p NotPermitted = (p < 32) × (c ≡ 0 → ⊥)
+EndRefused c p NotBuilt = ⊥

@@ -159,15 +159,37 @@ pub fn program(c: u32) -> Result<(), Refusal>
     }
 }
 
+// Whether `who` has the device, open or closing.
+pub fn has_device(room: &[u64], who: u32, d: u32) -> bool
+    requires { ⌜ 65536 ≤ length (now room) ⌝ ∗ ⌜ d < 32 ⌝ }
+    ensures { λ r. ⌜ r ≡ ownerIs who (deviceOf (now (room .entry)) d) ⌝ }
+{
+    match device_at(room, d) {
+        Device::Shut => false,
+        Device::Opened(by) => who == by,
+        Device::Closing(by) => who == by,
+    }
+}
+
 // `who` has the device, open or closing.
 pub fn held(room: &[u64], who: u32, d: u32) -> Result<(), Refusal>
     requires { ⌜ 65536 ≤ length (now room) ⌝ ∗ ⌜ d < 32 ⌝ }
     ensures { λ r. ⌜ Cases r (λ _. ownerIs who (deviceOf (now (room .entry)) d) ≡ true) (λ e. (e ≡ Refusal.NotYours) × (ownerIs who (deviceOf (now (room .entry)) d) ≡ false)) ⌝ }
 {
-    let held = match device_at(room, d) {
-        Device::Shut => false,
-        Device::Opened(by) => who == by,
-        Device::Closing(by) => who == by,
-    };
-    if held { Ok(()) } else { Err(Refusal::NotYours) }
+    if has_device(room, who, d) {
+        Ok(())
+    } else {
+        Err(Refusal::NotYours)
+    }
+}
+
+// Program 0 may end programs, and no other.
+pub fn may_end(who: u32) -> Result<(), Refusal>
+    ensures { λ r. ⌜ Cases r (λ _. who ≡ 0) (λ e. (e ≡ Refusal.NotPermitted) × (who ≡ 0 → ⊥)) ⌝ }
+{
+    if who == 0 {
+        Ok(())
+    } else {
+        Err(Refusal::NotPermitted)
+    }
 }

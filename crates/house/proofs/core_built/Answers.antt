@@ -1,5 +1,5 @@
-use Rattle.house.proofs.Built.{the-core}
+use Rattle.house.proofs.Built.{all-built}
 use Rattle.house.proofs.core_built.Needs as need
 
 pub returns : need.returns
-returns c k t = the-core k t
+returns c k t = all-built k
