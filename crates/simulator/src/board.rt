@@ -16,6 +16,7 @@ use crate::spaces::Spaces;
 mod accesses;
 mod asked;
 mod asks;
+pub mod census;
 mod drains;
 mod lines;
 mod made;

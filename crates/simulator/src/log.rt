@@ -1,8 +1,9 @@
 // All that happened, in lent rows, read newest first.
 ghost use mathlib.Core.Path.{_≡_};
-ghost use mathlib.Core.List.{List, [], _∷_};
-ghost use Prim.Native.Nat.{ℕ, _+_, _*_, _<_, _≤_};
-ghost use lib.ListN.{length};
+ghost use mathlib.Core.List.{[], _∷_};
+ghost use Rattle.std.specs.Options.{Cases};
+ghost use Prim.Native.Nat.{_+_, _-_, _<_, _≤_};
+ghost use lib.ListN.{length, getD};
 ghost use Rattle.simulator.specs.Lists.{newest};
 ghost use Rattle.simulator.specs.Notes.{blank};
 use crate::rows::Note;
@@ -21,12 +22,30 @@ impl<'a> Log<'a> {
         Log { notes, count: 0 }
     }
 
+    // How many there are.
+    pub fn count(&self) -> usize
+        ensures { λ r. ⌜ r ≡ now (self .entry) .count ⌝ }
+    {
+        self.count
+    }
+
     // How many more there is room for.
     pub fn room(&self) -> usize
         requires { ⌜ now self .count ≤ length (now (now self .notes)) ⌝ }
         ensures { λ r. ⌜ r + now (self .entry) .count ≡ length (now (now (self .entry) .notes)) ⌝ }
     {
         self.notes.len() - self.count
+    }
+
+    // The latest event, if there is one.
+    pub fn latest(&self) -> Option<Note>
+        requires { ⌜ now self .count ≤ length (now (now self .notes)) ⌝ }
+        ensures { λ r. ⌜ Cases r (now (self .entry) .count ≡ 0) (λ n. (0 < now (self .entry) .count) × (n ≡ getD (now (now (self .entry) .notes)) (now (self .entry) .count - 1) blank)) ⌝ }
+    {
+        if self.count == 0 {
+            return None;
+        }
+        Some(self.notes[self.count - 1])
     }
 
     pub fn add(&mut self, n: Note)

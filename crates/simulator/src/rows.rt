@@ -27,27 +27,27 @@ pub struct Note {
     pub x: u64,
 }
 
-const ASKED: u32 = 0;
-
-const TOLD: u32 = 1;
-
-const LOADED: u32 = 2;
-
-const STORED: u32 = 3;
-
-const FAULTED: u32 = 4;
-
-const POKED: u32 = 5;
-
-const TOOK: u32 = 6;
-
-const PUT: u32 = 7;
-
-const MISSED: u32 = 8;
-
-const DRAINED: u32 = 9;
-
 impl Note {
+    pub const ASKED: u32 = 0;
+
+    pub const TOLD: u32 = 1;
+
+    pub const LOADED: u32 = 2;
+
+    pub const STORED: u32 = 3;
+
+    pub const FAULTED: u32 = 4;
+
+    pub const POKED: u32 = 5;
+
+    pub const TOOK: u32 = 6;
+
+    pub const PUT: u32 = 7;
+
+    pub const MISSED: u32 = 8;
+
+    pub const DRAINED: u32 = 9;
+
     // A row that tells nothing yet.
     pub const BLANK: Note = Note {
         kind: 0,
@@ -89,7 +89,7 @@ impl Note {
     pub fn asked(who: u32, call: Call) -> Note
         ensures { λ r. ⌜ eventOf r ≡ Asked who call ⌝ }
     {
-        Note::with_call(ASKED, who, call, 0)
+        Note::with_call(Note::ASKED, who, call, 0)
     }
 
     pub fn told(who: u32, call: Call, answer: Answer) -> Note
@@ -100,14 +100,14 @@ impl Note {
             Answer::Later => 1,
             Answer::No(n) => n as u64 + 2,
         };
-        Note::with_call(TOLD, who, call, x)
+        Note::with_call(Note::TOLD, who, call, x)
     }
 
     pub fn loaded(who: u32, v: u32, word: u32, x: u64) -> Note
         ensures { λ r. ⌜ eventOf r ≡ Loaded who v word x ⌝ }
     {
         Note {
-            kind: LOADED,
+            kind: Note::LOADED,
             who,
             a: v,
             b: word,
@@ -121,7 +121,7 @@ impl Note {
         ensures { λ r. ⌜ eventOf r ≡ Stored who v word x ⌝ }
     {
         Note {
-            kind: STORED,
+            kind: Note::STORED,
             who,
             a: v,
             b: word,
@@ -135,7 +135,7 @@ impl Note {
         ensures { λ r. ⌜ eventOf r ≡ Faulted who v ⌝ }
     {
         Note {
-            kind: FAULTED,
+            kind: Note::FAULTED,
             who,
             a: v,
             b: 0,
@@ -149,7 +149,7 @@ impl Note {
         ensures { λ r. ⌜ eventOf r ≡ Poked who v d ⌝ }
     {
         Note {
-            kind: POKED,
+            kind: Note::POKED,
             who,
             a: v,
             b: d,
@@ -163,7 +163,7 @@ impl Note {
         ensures { λ r. ⌜ eventOf r ≡ TookFrom d p frame word x ⌝ }
     {
         Note {
-            kind: TOOK,
+            kind: Note::TOOK,
             who: d,
             a: p,
             b: frame,
@@ -177,7 +177,7 @@ impl Note {
         ensures { λ r. ⌜ eventOf r ≡ PutInto d p frame word x ⌝ }
     {
         Note {
-            kind: PUT,
+            kind: Note::PUT,
             who: d,
             a: p,
             b: frame,
@@ -191,7 +191,7 @@ impl Note {
         ensures { λ r. ⌜ eventOf r ≡ Missed d p writes ⌝ }
     {
         Note {
-            kind: MISSED,
+            kind: Note::MISSED,
             who: d,
             a: p,
             b: if writes { 1 } else { 0 },
@@ -205,7 +205,7 @@ impl Note {
         ensures { λ r. ⌜ eventOf r ≡ Drained d said ⌝ }
     {
         Note {
-            kind: DRAINED,
+            kind: Note::DRAINED,
             who: d,
             a: if said { 1 } else { 0 },
             b: 0,

@@ -21,7 +21,8 @@ impl<'a> Board<'a> {
         }
     }
 
-    fn trick(&mut self)
+    // One trick, or none where what it needs is not there.
+    pub fn trick(&mut self)
         ensures { λ _. ⌜ Goes (partsOf (now (self .entry))) (partsOf (now (self .exit))) ⌝ }
     {
         match self.dice.below(11) {
