@@ -20,6 +20,7 @@ pub mod Idle
 pub mod Keeping
 pub mod Known
 pub mod Latest
+pub mod LendCalls
 pub mod Lending
 pub mod Mappings
 pub mod MeaningUses

@@ -14,5 +14,6 @@ pub mod Gone
 pub mod Words
 pub mod Rows
 pub mod Mappings
+pub mod Lends
 pub mod Unmapping
 pub mod Closures

@@ -21,7 +21,7 @@ can (Give v to at) = true
 can (Open d) = true
 can (Close d) = true
 can (Regs d v) = true
-can (Lend v d p w) = false
+can (Lend v d p w) = true
 can (Recall v) = true
 can (End w) = true
 

@@ -3,7 +3,7 @@
 use mathlib.Core.Path.{_≡_}
 use mathlib.Core.Logic.{_⊎_}
 use mathlib.Core.Bool.{true, false}
-use Prim.Native.Nat.{ℕ, _<_, _≤_}
+use Prim.Native.Nat.{ℕ, _<_, _≤_, _/_}
 use Rattle.std.specs.declared.result.Result.{Result}
 use Rattle.std.specs.declared.result.Result.the-variants.{Ok, Err}
 use Rattle.ledger.specs.declared.Loan.the-variants as loan
@@ -13,7 +13,8 @@ use Rattle.ledger.specs.declared.Place.the-variants as place
 use Rattle.ledger.specs.declared.Device.{Device}
 use Rattle.ledger.specs.declared.Device.the-variants as device
 use Rattle.ledger.specs.View as ledger
-use Rattle.ledger.specs.Uses.{loanIn, ownerIs, heldByOther}
+use Rattle.ledger.specs.Uses.{loanIn, heldByOther, isAt, ownerIs}
+use Rattle.house.specs.Lends.{Untaken, Lendable}
 use Rattle.house.specs.declared.Answer.{Answer}
 use Rattle.house.specs.declared.Answer.the-variants.{Done, Later, No}
 use Rattle.house.specs.declared.refusals.Refusal.{Refusal}
@@ -128,6 +129,18 @@ RecallRefused v c u Held = ⊥
 RecallRefused v c u NoFrame = ⊥
 RecallRefused v c u NotPermitted = ⊥
 RecallRefused v c u NotBuilt = ⊥
+
+-- c lends its page at u to device d, one of m, at its page p; v is what the room says of n frames
+abbrev pub LendRefused : ledger.View → ℕ → ℕ → ℕ → ℕ → ℕ → ℕ → Refusal → Type 0
+LendRefused v n m c u d p OutOfRange = u < 1024 → d < m → p < 262144 → ⊥
+LendRefused v n m c u d p NoPage = (u < 1024) × (d < m) × (p < 262144) × ((f : ℕ) → v .place c u ≡ place.Page f → ⊥)
+LendRefused v n m c u d p Occupied = (u < 1024) × (d < m) × (p < 262144) × ((f : ℕ) × (v .place c u ≡ place.Page f)) × ((g : ℕ) × (isAt d p (loanIn (v .used g)) ≡ true))
+LendRefused v n m c u d p WrongLoan = (u < 1024) × (d < m) × (p < 262144) × ((f : ℕ) × (v .place c u ≡ place.Page f) × (loanIn (v .used f) ≡ loan.Home → ⊥)) × Untaken v d p
+LendRefused v n m c u d p NotYours = (u < 1024) × (d < m) × (p < 262144) × ((f : ℕ) × (v .place c u ≡ place.Page f) × (v .used f ≡ used.PageOf c u loan.Home)) × Untaken v d p × (v .device d ≡ device.Opened c → ⊥)
+LendRefused v n m c u d p Held = ⊥
+LendRefused v n m c u d p NoFrame = ((f : ℕ) × Lendable v m c u f d p) × (v .low d (p / 512) ≡ 0) × ((f : ℕ) → f < n → v .used f ≡ used.Idle → ⊥)
+LendRefused v n m c u d p NotPermitted = ⊥
+LendRefused v n m c u d p NotBuilt = ⊥
 
 -- c closes device d; the machine has n devices
 abbrev pub CloseRefused : ledger.View → ℕ → ℕ → ℕ → Refusal → Type 0

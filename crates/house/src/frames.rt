@@ -9,15 +9,17 @@ ghost use Rattle.std.specs.Results.{Cases};
 ghost use Rattle.ledger.specs.declared.Use.the-variants.{Idle};
 ghost use Rattle.ledger.specs.declared.Place.the-variants.{Nothing};
 ghost use Rattle.ledger.specs.declared.Device.the-variants.{Shut};
-ghost use Rattle.ledger.specs.Room.{useOf, placeOf, deviceOf};
+ghost use Rattle.ledger.specs.Room.{useOf, placeOf, deviceOf, lowOf};
 ghost use Rattle.ledger.specs.View.{viewOf};
 ghost use Rattle.ledger.specs.Consistent.{Consistent};
-ghost use Rattle.ledger.specs.Changes.{newPage, openedBy};
+ghost use Rattle.ledger.specs.Changes.{newPage, openedBy, lowerAt};
+ghost use Rattle.ledger.specs.Uses.{isShut};
 ghost use Rattle.house.specs.Operations.{Cleared};
 use crate::Machine;
 use crate::refusals::Refusal;
 use ledger::pages::new_page;
 use ledger::searches::find_idle;
+use ledger::tables::add_lower;
 use ledger::tables::open_device;
 
 pub struct Taken {
@@ -83,6 +85,20 @@ impl Taken {
         ensures consistent { λ _. ⌜ Consistent frames (now (room .exit)) ⌝ }
     {
         open_device(room, frames, who, d, self.frame);
+        self.settled = true;
+        self.frame
+    }
+
+    // It becomes the lower table of d at a slot that had none.
+    pub fn into_lower_table(mut self, room: &mut [u64], frames: u32, d: u32, slot: u32) -> u32
+        requires consistent { ⌜ Consistent frames (now room) ⌝ }
+        requires device { ⌜ d < 32 ⌝ ∗ ⌜ slot < 512 ⌝ ∗ ⌜ isShut (deviceOf (now room) d) ≡ false ⌝ ∗ ⌜ lowOf (now room) d slot ≡ 0 ⌝ }
+        requires frame { ⌜ self .frame < frames ⌝ ∗ ⌜ useOf (now room) (self .frame) ≡ Idle ⌝ }
+        ensures frame { λ r. ⌜ r ≡ self .frame ⌝ }
+        ensures view { λ _. ⌜ viewOf frames (now (room .exit)) ≡ lowerAt d slot (self .frame) (viewOf frames (now (room .entry))) ⌝ }
+        ensures consistent { λ _. ⌜ Consistent frames (now (room .exit)) ⌝ }
+    {
+        add_lower(room, frames, d, slot, self.frame);
         self.settled = true;
         self.frame
     }

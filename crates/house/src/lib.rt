@@ -7,7 +7,7 @@ ghost use lib.Dec.{T};
 ghost use Rattle.house.specs.Event.{Event, Told};
 ghost use Rattle.house.specs.Machine.{Hw, Frame, Registers, Nothing, AtStart, Steps, Drains, Comes, withMem, counted, put, shows, started};
 ghost use Rattle.house.specs.Meaning.{Explained, Quiet};
-ghost use Rattle.house.specs.Promise.{can, roomOf, startOf, OnePlace, LentByDriver, HomeIsQuiet, NewIsNoughts};
+ghost use Rattle.house.specs.Promise.{can, roomOf, startOf, OnePlace, LentByDriver, HomeIsQuiet, NewIsNoughts, CoreBuilt, AllBuilt};
 ghost use Rattle.house.specs.Refusals.{answerOf, IfRefused, IfNo, NeverNo};
 ghost use Rattle.house.specs.Serving.{Keeps, Begins};
 
@@ -16,6 +16,7 @@ mod devices;
 mod drains;
 mod ending;
 mod frames;
+mod loans;
 mod operations;
 mod pages;
 mod recalls;
@@ -29,6 +30,8 @@ use devices::open_device;
 use ending::end;
 use frames::clear;
 use ledger::setup::set_up;
+use loans::Mapping;
+use loans::lend;
 use pages::free;
 use pages::get;
 use pages::give;
@@ -202,7 +205,14 @@ impl Keeper {
             Call::Open { d } => open_device(w, room, &mut self.next, who, d),
             Call::Close { d } => close(w, room, who, d),
             Call::Regs { d, v } => map_registers(w, room, who, d, v),
-            Call::Lend { .. } => Err(Refusal::NotBuilt),
+            Call::Lend { v, d, p, writes } => {
+                let at = Mapping {
+                    device: d,
+                    page: p,
+                    writes,
+                };
+                lend(w, room, &mut self.next, who, v, at)
+            }
             Call::Recall { v } => recall(w, room, who, v),
             Call::End { who: p } => end(w, room, who, p),
         }
@@ -236,6 +246,20 @@ pub fn keeper_is_small() -> bool
     ensures { λ r. ⌜ T r ⌝ }
 {
     std::mem::size_of::<Keeper>() <= 4096
+}
+
+// The core is built: get, free, open, close, lend, recall.
+pub fn core_built() -> u8
+    ensures { λ _. ⌜ CoreBuilt ⌝ }
+{
+    0
+}
+
+// Every call is built.
+pub fn all_built() -> u8
+    ensures { λ _. ⌜ AllBuilt ⌝ }
+{
+    0
 }
 
 // No two frames are at one place, or at one page of a device.

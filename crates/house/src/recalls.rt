@@ -21,6 +21,7 @@ use crate::Answer;
 use crate::Call;
 use crate::Machine;
 use crate::drains::Forgotten;
+use crate::loans::Mapping;
 use crate::operations::write;
 use crate::refusals::Refusal;
 use crate::refusals::own_page;
@@ -31,24 +32,16 @@ use ledger::frames::use_at;
 use ledger::pages::set_loan;
 use ledger::slots::low_at;
 
-// Where a page is lent, or what it is leaving: a device and a page of its address space.
+// A page in a frame, and the lower table that has its entry.
 #[derive(Clone, Copy)]
-pub struct Lending {
-    device: u32,
-    page: u32,
-    writes: bool,
-}
-
-// A page in a frame, mapped for a device by an entry of a lower table.
-#[derive(Clone, Copy)]
-pub struct Mapping {
+pub struct MappedPage {
     frame: u32,
     table: u32,
-    to: Lending,
+    to: Mapping,
 }
 
 // The page is not home.
-fn away(used: Use) -> Result<Lending, Refusal>
+fn away(used: Use) -> Result<Mapping, Refusal>
     ensures { λ r. ⌜ Cases r (λ l. recalled (loanIn used) ≡ Leaving (l .device) (l .page) (l .writes)) (λ e. (e ≡ Refusal.WrongLoan) × (loanIn used ≡ Home)) ⌝ }
 {
     match used {
@@ -60,7 +53,7 @@ fn away(used: Use) -> Result<Lending, Refusal>
                 page,
                 writes,
             },
-        } => Ok(Lending {
+        } => Ok(Mapping {
             device,
             page,
             writes,
@@ -73,7 +66,7 @@ fn away(used: Use) -> Result<Lending, Refusal>
                 page,
                 writes,
             },
-        } => Ok(Lending {
+        } => Ok(Mapping {
             device,
             page,
             writes,
@@ -83,13 +76,13 @@ fn away(used: Use) -> Result<Lending, Refusal>
 }
 
 // The mapping of the page in frame f, which is at place v of `who`.
-fn mapped(room: &[u64], frames: u32, who: u32, v: u32, f: u32) -> Result<Mapping, Refusal>
+fn mapped(room: &[u64], frames: u32, who: u32, v: u32, f: u32) -> Result<MappedPage, Refusal>
     requires { ⌜ Consistent frames (now room) ⌝ ∗ ⌜ placeOf (now room) who v ≡ Page f ⌝ }
     ensures { λ r. ⌜ Cases r (λ m. Away (viewOf frames (now (room .entry))) who v (m .frame) (m .to .device) (m .to .page) (m .table) (m .to .writes)) (λ e. (e ≡ Refusal.WrongLoan) × (loanIn (viewOf frames (now (room .entry)) .used f) ≡ Home)) ⌝ }
 {
     let to = away(use_at(room, f))?;
     let table = low_at(room, to.device, to.page / 512) - 1;
-    Ok(Mapping {
+    Ok(MappedPage {
         frame: f,
         table,
         to,
@@ -97,7 +90,7 @@ fn mapped(room: &[u64], frames: u32, who: u32, v: u32, f: u32) -> Result<Mapping
 }
 
 // What a recall finds in the room: how the page is mapped, or why it is refused.
-fn plan_recall(room: &[u64], frames: u32, who: u32, v: u32) -> Result<Mapping, Refusal>
+fn plan_recall(room: &[u64], frames: u32, who: u32, v: u32) -> Result<MappedPage, Refusal>
     requires { ⌜ Consistent frames (now room) ⌝ ∗ ⌜ who < 32 ⌝ }
     ensures { λ r. ⌜ Cases r (λ m. (v < 1024) × Away (viewOf frames (now (room .entry))) who v (m .frame) (m .to .device) (m .to .page) (m .table) (m .to .writes)) (λ e. RecallRefused (viewOf frames (now (room .entry))) who v e) ⌝ }
 {
@@ -107,7 +100,7 @@ fn plan_recall(room: &[u64], frames: u32, who: u32, v: u32) -> Result<Mapping, R
 }
 
 // From now on the page is leaving.
-fn let_go(room: &mut [u64], frames: u32, who: u32, v: u32, m: Mapping)
+fn let_go(room: &mut [u64], frames: u32, who: u32, v: u32, m: MappedPage)
     requires consistent { ⌜ Consistent frames (now room) ⌝ }
     requires page { ⌜ who < 32 ⌝ ∗ ⌜ v < 1024 ⌝ ∗ ⌜ Away (viewOf frames (now room)) who v (m .frame) (m .to .device) (m .to .page) (m .table) (m .to .writes) ⌝ }
     ensures view { λ _. ⌜ viewOf frames (now (room .exit)) ≡ withLoan who v (m .frame) (Leaving (m .to .device) (m .to .page) (m .to .writes)) (viewOf frames (now (room .entry))) ⌝ }
@@ -122,7 +115,7 @@ fn let_go(room: &mut [u64], frames: u32, who: u32, v: u32, m: Mapping)
 }
 
 // The page is home: its device was forgotten, in this call.
-fn bring_home(room: &mut [u64], frames: u32, who: u32, v: u32, m: Mapping, forgotten: Forgotten)
+fn bring_home(room: &mut [u64], frames: u32, who: u32, v: u32, m: MappedPage, forgotten: Forgotten)
     requires consistent { ⌜ Consistent frames (now room) ⌝ }
     requires page { ⌜ who < 32 ⌝ ∗ ⌜ v < 1024 ⌝ ∗ ⌜ placeOf (now room) who v ≡ Page (m .frame) ⌝ }
     requires forgotten { ⌜ forgotten .device ≡ m .to .device ⌝ }
@@ -134,7 +127,7 @@ fn bring_home(room: &mut [u64], frames: u32, who: u32, v: u32, m: Mapping, forgo
 }
 
 // Clears the entry of the page, and nothing else.
-fn unmap<M: Machine>(w: &mut M, m: Mapping)
+fn unmap<M: Machine>(w: &mut M, m: MappedPage)
     requires { ⌜ 0 < M·Machine .hw (now w) .left ⌝ ∗ ⌜ m .table < M·Machine .hw (now w) .frames ⌝ }
     ensures steps { λ _. ⌜ Steps (counted (withMem (put (m .table) (m .to .page % 512) 0 (M·Machine .hw (now (w .entry)) .mem)) (M·Machine .hw (now (w .entry))))) (M·Machine .seen (now (w .entry))) (M·Machine .hw (now (w .exit))) (M·Machine .seen (now (w .exit))) ⌝ }
     ensures asked { λ _. ⌜ Asked1 (M·Machine .hw (now (w .entry))) (M·Machine .hw (now (w .exit))) ⌝ }
@@ -149,7 +142,7 @@ fn settle<M: Machine>(
     frames: u32,
     who: u32,
     v: u32,
-    m: Mapping,
+    m: MappedPage,
 ) -> Answer
     requires asks { ⌜ 0 < M·Machine .hw (now w) .left ⌝ ∗ ⌜ m .to .device < M·Machine .hw (now w) .devices ⌝ }
     requires consistent { ⌜ Consistent frames (now room) ⌝ }

@@ -10,8 +10,9 @@ ghost use Rattle.ledger.specs.declared.Device.the-variants.{Shut, Opened};
 ghost use Rattle.ledger.specs.declared.Loan.the-variants.{Home};
 ghost use Rattle.ledger.specs.declared.Use.the-variants.{PageOf};
 ghost use Rattle.ledger.specs.View.{viewOf};
-ghost use Rattle.ledger.specs.Uses.{loanIn, ownerIs};
+ghost use Rattle.ledger.specs.Uses.{loanIn, isAt, ownerIs};
 ghost use Rattle.ledger.specs.Consistent.{Consistent};
+ghost use Rattle.house.specs.Lends.{Untaken};
 ghost use Rattle.house.specs.Refusals.{numberOf};
 use ledger::Device;
 use ledger::Loan;
@@ -20,6 +21,7 @@ use ledger::Use;
 use ledger::devices::device_at;
 use ledger::frames::use_at;
 use ledger::places::place_at;
+use ledger::searches::page_taken;
 
 // The reasons, in the order of their numbers.
 #[derive(Clone, Copy)]
@@ -120,6 +122,18 @@ pub fn shut(room: &[u64], d: u32) -> Result<(), Refusal>
     match device_at(room, d) {
         Device::Shut => Ok(()),
         _ => Err(Refusal::Held),
+    }
+}
+
+// No page is lent to d at p, or leaving it there: one that leaves may still be reached.
+pub fn untaken(room: &[u64], frames: u32, d: u32, p: u32) -> Result<(), Refusal>
+    requires { ⌜ Consistent frames (now room) ⌝ ∗ ⌜ d < 32 ⌝ }
+    ensures { λ r. ⌜ Cases r (λ _. Untaken (viewOf frames (now (room .entry))) d p) (λ e. (e ≡ Refusal.Occupied) × ((g : ℕ) × (isAt d p (loanIn (viewOf frames (now (room .entry)) .used g)) ≡ true))) ⌝ }
+{
+    if page_taken(room, frames, d, p) {
+        Err(Refusal::Occupied)
+    } else {
+        Ok(())
     }
 }
 

@@ -3,21 +3,21 @@ use mathlib.Core.Path.{_≡_, refl, sym, _∙_, ap, fun-ext, subst}
 use mathlib.Core.Bool.{Bool, true, false, cond, _&&_}
 use mathlib.Core.Logic.{_⊎_, inl, inr, ⊎-elim}
 use mathlib.Core.List.{List}
-use Prim.Native.Nat.{ℕ, suc, _+_, _-_, _*_, _/_, _%_, _<_, _≤_}
+use Prim.Native.Nat.{ℕ, _+_, _-_, _*_, _<_, _≤_}
 use native.Mathlib.Omega.{arith}
-use lib.Dec.{eqb, ltb, leb}
+use lib.Dec.{eqb, ltb}
 use lib.ListN.{getD, set, length}
 use Rattle.std.proofs.shelf.Lists.{getD-set-same, getD-set-other}
-use Rattle.std.proofs.shelf.Tests.{ltb-true, lt-ltb, eqb-true, eqb-false, eq-eqb, ne-eqb, cases-eq, cases-bool, cases-lt, cond-both, and-parts, le-ltb, false≢true}
+use Rattle.std.proofs.shelf.Tests.{ltb-true, lt-ltb, eqb-true, eq-eqb, ne-eqb, cases-eq, cases-lt, cond-both, and-parts, le-ltb, false≢true}
 use Rattle.ledger.specs.declared.Use.{Use}
-use Rattle.ledger.specs.declared.Use.the-variants.{House, TableOf, Idle, PageOf}
+use Rattle.ledger.specs.declared.Use.the-variants.{House, Idle}
 use Rattle.ledger.specs.declared.Place.the-variants.{Nothing}
 use Rattle.ledger.specs.declared.Device.the-variants.{Shut}
 use Rattle.ledger.specs.Words.{useFrom, placeFrom, deviceFrom, numberFrom}
 use Rattle.ledger.specs.Room.{useOf, placeOf, deviceOf, topOf, lowOf}
-use Rattle.ledger.specs.View.{View, viewOf}
+use Rattle.ledger.specs.View.{viewOf}
 use Rattle.ledger.specs.Uses.{isAt, loanIn}
-use Rattle.ledger.specs.Consistent.{FrameOk, Coherent, Consistent}
+use Rattle.ledger.specs.Consistent.{FrameOk, Coherent}
 use Rattle.ledger.specs.Changes.{empty}
 use Rattle.ledger.proofs.Entries.{record-at, record-kept, same-view}
 

@@ -1,14 +1,14 @@
 -- A write of one entry: what the room says after it, of that entry and of all others.
-use mathlib.Core.Path.{_≡_, refl, sym, _∙_, ap, fun-ext}
+use mathlib.Core.Path.{_≡_, refl, _∙_, ap, fun-ext}
 use mathlib.Core.Bool.{Bool, true, false, cond, _&&_}
 use mathlib.Core.Logic.{_⊎_, inl, inr, ⊎-elim, _≢_}
 use mathlib.Core.List.{List}
-use Prim.Native.Nat.{ℕ, _+_, _-_, _*_, _/_, _%_, _<_, _≤_}
+use Prim.Native.Nat.{ℕ, _+_, _-_, _*_, _<_, _≤_}
 use native.Mathlib.Omega.{arith}
-use lib.Dec.{eqb, ltb, leb}
+use lib.Dec.{eqb, ltb}
 use lib.ListN.{getD, set, length}
 use Rattle.std.proofs.shelf.Lists.{getD-set-same, getD-set-other, length-set}
-use Rattle.std.proofs.shelf.Tests.{ltb-true, lt-ltb, eqb-true, eqb-false, eq-eqb, ne-eqb, cases-eq, cases-bool, and-parts}
+use Rattle.std.proofs.shelf.Tests.{ltb-true, lt-ltb, eq-eqb, ne-eqb, cases-eq, and-parts}
 use Rattle.ledger.specs.declared.Use.{Use}
 use Rattle.ledger.specs.declared.Use.the-variants.{Idle}
 use Rattle.ledger.specs.declared.Place.{Place}
@@ -50,11 +50,6 @@ same-uses r s h f = let a = h (65536 + 2 * f) (omega arith) in let b = h (65536 
 -- a view is its five tables
 pub same-view : (a b : View) → a .used ≡ b .used → a .place ≡ b .place → a .device ≡ b .device → a .top ≡ b .top → a .low ≡ b .low → a ≡ b
 same-view a b u p d t l = λ i. record { used = u i; place = p i; device = d i; top = t i; low = l i }
-
--- what stands at a word after one is written
-pub written : (r : List ℕ) (i x j : ℕ) → i < length r → getD (set r i x) j 0 ≡ cond (eqb j i) x (getD r j 0)
-written r i x j h =
-    ⊎-elim (λ e. rw (eq-eqb j i e, e) (getD-set-same r i x 0 h)) (λ ne. rw (ne-eqb j i ne) (getD-set-other r i j x 0 ne)) (cases-eq j i)
 
 module _ (r : List ℕ) (f lo hi : ℕ) (fits : 65537 + 2 * f < length r) where
   abbrev after : List ℕ

@@ -1,8 +1,8 @@
 // What each frame is used for.
 ghost use mathlib.Core.Path.{_≡_};
-ghost use Prim.Native.Nat.{ℕ, _+_, _*_, _<_, _≤_};
+ghost use Prim.Native.Nat.{ℕ, _+_, _*_, _<_};
 ghost use lib.ListN.{length};
-ghost use Rattle.ledger.specs.Words.{UseFits};
+ghost use Rattle.ledger.specs.Words.{UseFits, useFrom};
 ghost use Rattle.ledger.specs.Room.{useOf};
 ghost use Rattle.ledger.specs.View.{viewOf, withUse};
 use crate::Use;
@@ -14,8 +14,17 @@ pub fn use_at(room: &[u64], f: u32) -> Use
     requires { ⌜ 65537 + 2 * f < length (now room) ⌝ }
     ensures { λ r. ⌜ r ≡ useOf (now (room .entry)) f ⌝ }
 {
+    let (low, high) = words_at(room, f);
+    read(low, high)
+}
+
+// The two words of a frame's record.
+fn words_at(room: &[u64], f: u32) -> (u64, u64)
+    requires { ⌜ 65537 + 2 * f < length (now room) ⌝ }
+    ensures { λ r. ⌜ useFrom (r .0) (r .1) ≡ useOf (now (room .entry)) f ⌝ }
+{
     let at = FRAME_RECORDS + 2 * f as usize;
-    read(room[at], room[at + 1])
+    (room[at], room[at + 1])
 }
 
 pub fn set_use(room: &mut [u64], f: u32, used: Use)

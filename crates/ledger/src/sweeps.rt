@@ -2,7 +2,6 @@
 ghost use mathlib.Core.Path.{_≡_};
 ghost use mathlib.Core.Bool.{true};
 ghost use Prim.Native.Nat.{_<_};
-ghost use Rattle.ledger.specs.Words.{LoanFits};
 ghost use Rattle.ledger.specs.Room.{deviceOf};
 ghost use Rattle.ledger.specs.View.{viewOf};
 ghost use Rattle.ledger.specs.Uses.{ownerIs, mapLoan, onPage, sweptLoan};

@@ -1,0 +1,9 @@
+mod Accesses
+mod Asked
+mod Devices
+mod Forgets
+mod Lines
+mod Listed
+mod Owed
+mod Tricks
+mod Words
