@@ -1,5 +1,5 @@
 -- A loop over the places of a program that hides all registers: its start, its step and its end.
-use mathlib.Core.Path.{_≡_, refl, sym, ap, subst, fun-ext, _∙_}
+use mathlib.Core.Path.{_≡_, refl, sym, ap, fun-ext, _∙_}
 use mathlib.Core.Bool.{Bool, true, false, cond, _&&_}
 use mathlib.Core.Logic.{⊎-elim}
 use mathlib.Core.List.{List}
@@ -12,7 +12,7 @@ use Rattle.ledger.specs.declared.Place.the-variants.{Nothing, Page, Registers}
 use Rattle.ledger.specs.Room.{placeOf, deviceOf}
 use Rattle.ledger.specs.View.{View, viewOf}
 use Rattle.ledger.specs.Uses.{ownerIs, showsAny}
-use Rattle.ledger.specs.Consistent.{Coherent, Consistent}
+use Rattle.ledger.specs.Consistent.{Consistent}
 use Rattle.ledger.proofs.Entries.{same-view}
 use Rattle.ledger.proofs.Moves.{at2}
 use Rattle.ledger.proofs.Laws.{place-within}

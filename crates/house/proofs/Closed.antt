@@ -1,12 +1,11 @@
 -- A device that is shut, or is to be shut: the room's change is the meaning's.
-use mathlib.Core.Path.{_≡_, refl, sym, ap, subst, fun-ext, _∙_}
-use mathlib.Core.Bool.{Bool, true, false, cond, _&&_, _||_, not}
+use mathlib.Core.Path.{_≡_, refl, sym, ap, fun-ext, _∙_}
+use mathlib.Core.Bool.{Bool, true, false, cond, _&&_, not}
 use mathlib.Core.Logic.{⊎-elim}
-use mathlib.Core.List.{List, [], _∷_}
-use Prim.Native.Nat.{ℕ, suc, _-_, _<_}
+use Prim.Native.Nat.{ℕ, suc, _-_}
 use native.Mathlib.Omega.{arith}
-use lib.Dec.{T, eqb, ltb, leb, eqb→eq}
-use Rattle.std.proofs.shelf.Tests.{cases-eq, eq-eqb, ne-eqb, cond-both, lt-leb, le-leb, false≢true}
+use lib.Dec.{T, eqb, eqb→eq}
+use Rattle.std.proofs.shelf.Tests.{cases-eq, eq-eqb, ne-eqb, cond-both, false≢true}
 use Rattle.ledger.specs.declared.Loan as loans
 use Rattle.ledger.specs.declared.Loan.the-variants as loan
 use Rattle.ledger.specs.declared.Use as uses
@@ -18,18 +17,17 @@ use Rattle.ledger.specs.declared.Device.the-variants as device
 use Rattle.ledger.specs.View as ledger
 use Rattle.ledger.specs.Uses as tests
 use Rattle.ledger.specs.Changes as changes
-use Rattle.ledger.specs.Consistent.{Coherent}
 use Rattle.ledger.proofs.Entries.{same-view}
-use Rattle.house.specs.Machine.{Hw, Shown, Nothing, Forgotten}
-use Rattle.house.specs.Meaning.{Loan, Home, Lent, Leaving, Use, House, TableOf, Idle, Of, Dev, Shut, Opened, Closing, State, isShut, ownerIs, mapLoan, leavingFrom, homeFrom, noTable, closing, shut, shutting}
+use Rattle.house.specs.Machine.{Hw, Nothing, Forgotten}
+use Rattle.house.specs.Meaning.{Loan, Home, Lent, Leaving, Use, House, TableOf, Idle, Of, Dev, Shut, Opened, Closing, State, isShut, ownerIs, mapLoan, leavingFrom, homeFrom, noTable, closing, shut}
 use Rattle.house.specs.Sound.{viewOf, SoundAt, Held}
-use Rattle.house.specs.Kept.{KeptIn, Kept, useMeant, loanMeant, devMeant, regsMeant, shownMeant, tablesIn}
+use Rattle.house.specs.Kept.{KeptIn, useMeant, loanMeant, devMeant, regsMeant, tablesIn}
 use Rattle.house.specs.Closures.{closedAs}
-use Rattle.house.proofs.Shelf.{both, differ, is-true, from-true}
+use Rattle.house.proofs.Shelf.{both, differ, from-true}
 use Rattle.house.proofs.Keeping.{meant-change}
 use Rattle.house.proofs.Facts.{change-at, change-off}
 use Rattle.house.proofs.Tables.{tables-agree}
-use Rattle.house.proofs.Shutting.{shut-state, shutting-state}
+use Rattle.house.proofs.Shutting.{shut-state}
 
 meant-choice : {A B : Type 0} (m : A → B) (b : Bool) (x y : A) → cond b (m x) (m y) ≡ m (cond b x y)
 meant-choice m b x y = meant-change m b x y (m y) refl

@@ -1,12 +1,12 @@
 -- A loop that closes the devices of a program: its turns, and what holds after them.
 use mathlib.Core.Path.{_≡_, refl, sym, ap, subst, fun-ext, _∙_}
-use mathlib.Core.Bool.{Bool, true, false, cond, _&&_, _||_, not}
+use mathlib.Core.Bool.{Bool, true, false, _&&_, _||_, not}
 use mathlib.Core.Logic.{⊎-elim}
 use mathlib.Core.List.{List, [], _∷_}
-use Prim.Native.Nat.{ℕ, zero, suc, _+_, _*_, _<_, _≤_}
+use Prim.Native.Nat.{ℕ, zero, suc, _+_, _<_, _≤_}
 use native.Mathlib.Omega.{arith}
 use native.Mathlib.Numerals.{add-one}
-use lib.Dec.{T, eqb, ltb, not-T}
+use lib.Dec.{T, eqb, not-T}
 use Rattle.std.proofs.shelf.Tests.{cases-eq, ne-eqb, eq-eqb}
 use Rattle.ledger.specs.View as ledger
 use Rattle.ledger.specs.Uses.{ownerIs}
@@ -14,8 +14,8 @@ use Rattle.house.specs.Event.{Event}
 use Rattle.house.specs.Machine.{Hw}
 use Rattle.house.specs.Meaning.{isIn, Now}
 use Rattle.house.specs.Serving.{Progress, Holds}
-use Rattle.house.specs.Closures.{closedAs, below, closedAll, Closes, allIn, ClosesOne, ClosedOne, ClosedSoFar}
-use Rattle.house.proofs.Shelf.{is-false, left, right, in-here, in-more, in-cases}
+use Rattle.house.specs.Closures.{closedAs, below, Closes, allIn, ClosedOne, ClosedSoFar}
+use Rattle.house.proofs.Shelf.{is-false, left, right, in-here, in-cases}
 use Rattle.house.proofs.Between.{holds-steps}
 use Rattle.house.proofs.Draining.{holds-drain}
 use Rattle.house.proofs.Cutting.{Unlent, cut-root}

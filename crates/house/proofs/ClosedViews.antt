@@ -1,11 +1,10 @@
 -- Devices that are closed one after the other, as one change of the room.
-use mathlib.Core.Path.{_≡_, refl, sym, ap, subst, fun-ext, _∙_}
-use mathlib.Core.Bool.{Bool, true, false, cond, _&&_, _||_, not}
+use mathlib.Core.Path.{_≡_, refl, sym, ap, fun-ext, _∙_}
+use mathlib.Core.Bool.{Bool, true, false, cond, _&&_, not}
 use mathlib.Core.Logic.{⊎-elim}
-use mathlib.Core.List.{List, [], _∷_}
-use Prim.Native.Nat.{ℕ, zero, suc, _+_, _*_, _<_, _≤_}
+use mathlib.Core.List.{List, _∷_}
+use Prim.Native.Nat.{ℕ, suc, _<_, _≤_}
 use native.Mathlib.Omega.{arith}
-use native.Mathlib.Numerals.{add-one}
 use lib.Dec.{eqb, ltb}
 use Rattle.std.proofs.shelf.Tests.{cases-eq, cases-lt, eq-eqb, ne-eqb, lt-ltb, le-ltb}
 use Rattle.ledger.specs.declared.Loan.{Loan}
@@ -20,10 +19,8 @@ use Rattle.ledger.specs.View.{View}
 use Rattle.ledger.specs.Uses.{mapLoan, homeFrom, leavingFrom, noTable, noRegisters}
 use Rattle.ledger.specs.Changes.{withoutRegisters}
 use Rattle.ledger.proofs.Entries.{same-view}
-use Rattle.house.specs.Event.{Event}
-use Rattle.house.specs.Machine.{Hw}
 use Rattle.house.specs.Meaning.{isIn}
-use Rattle.house.specs.Closures.{closedAs, below, closedLoan, closedUse, closedAll, Closes, allIn, ClosesOne, ClosedOne, ClosedSoFar}
+use Rattle.house.specs.Closures.{closedAs, below, closedLoan, closedUse, closedAll}
 
 -- what a change leaves alone, in a choice
 fix-one : {A : Type 0} (f : A → A) (t : Bool) (x y : A) → f x ≡ x → f y ≡ y → f (cond t x y) ≡ cond t x y

@@ -1,11 +1,11 @@
 -- close: when it is refused, and what it makes of the room and the machine.
 use mathlib.Core.Path.{_≡_, refl, sym, ap, subst, _∙_}
-use mathlib.Core.Bool.{Bool, true, false, cond, not, _&&_, _||_}
+use mathlib.Core.Bool.{Bool, true, false, cond, _&&_, _||_}
 use mathlib.Core.Logic.{⊎-elim}
 use mathlib.Core.List.{List, [], _∷_}
 use Prim.Native.Nat.{ℕ, suc, _<_, _≤_}
 use native.Mathlib.Omega.{arith}
-use lib.Dec.{T, eqb, ltb, leb, eqb→eq}
+use lib.Dec.{T, eqb, ltb, eqb→eq}
 use Rattle.std.proofs.shelf.Tests.{cases-eq, eq-eqb, ne-eqb, lt-ltb, lt-leb, le-leb, false≢true}
 use Rattle.ledger.specs.declared.Loan as loans
 use Rattle.ledger.specs.declared.Loan.the-variants as loan
@@ -27,18 +27,18 @@ use Rattle.house.specs.declared.Answer.the-variants.{Done, Later, No}
 use Rattle.house.specs.declared.refusals.Refusal.{Refusal}
 use Rattle.house.specs.declared.refusals.Refusal.the-variants.{OutOfRange, NoPage, Occupied, WrongLoan, NotYours, Held, NoFrame, NotPermitted, NotBuilt}
 use Rattle.house.specs.Event.{Event, Told}
-use Rattle.house.specs.Machine.{Hw, Shown, Nothing, Registers, Steps, Drains, counted, withMem, put}
+use Rattle.house.specs.Machine.{Hw, Nothing, Registers, Steps, Drains, counted, withMem, put}
 use Rattle.house.specs.Meaning
 use Rattle.house.specs.Meaning.{State, Use, isIn, ownerIs, mapLoan, leavingFrom, setUse, why, acts, excused, takesFrame, loosens, out, shut, shutting, Now, Quiet, Under, Over}
 use Rattle.house.specs.Promise.{can, startOf}
 use Rattle.house.specs.Sound.{viewOf}
-use Rattle.house.specs.Kept.{Kept, useMeant, shownMeant}
+use Rattle.house.specs.Kept.{Kept, shownMeant}
 use Rattle.house.specs.Refusals.{numberOf, CloseRefused}
 use Rattle.house.specs.Serving.{Progress, nothingCut, Holds, Keeps, Begins}
 use Rattle.house.specs.Operations.{Asked1}
 use Rattle.house.specs.Unmapping.{Hid}
 use Rattle.house.specs.Closures.{closedAs}
-use Rattle.house.proofs.Shelf.{is-true, is-false, from-true, left, right, in-here}
+use Rattle.house.proofs.Shelf.{is-true, from-true, left, right, in-here}
 use Rattle.house.proofs.Rooms.{registers-ok}
 use Rattle.house.proofs.Keeping.{kept-uses}
 use Rattle.house.proofs.Facts.{change-at}

@@ -1,10 +1,9 @@
 -- The upper table of a device is taken out of frame 0 while a call is under way.
-use mathlib.Core.Path.{_≡_, refl, sym, ap, subst, _∙_}
-use mathlib.Core.Bool.{Bool, true, false, cond, _&&_, _||_, not}
+use mathlib.Core.Path.{_≡_, refl, sym, subst, _∙_}
+use mathlib.Core.Bool.{Bool, true, false, cond, _||_, not}
 use mathlib.Core.Logic.{⊎-elim}
 use mathlib.Core.List.{List}
 use Prim.Native.Nat.{ℕ, suc}
-use native.Mathlib.Omega.{arith}
 use lib.Dec.{T, eqb, eqb→eq, T-not}
 use Rattle.ledger.specs.declared.Loan as loans
 use Rattle.ledger.specs.declared.Loan.the-variants as loan
@@ -12,7 +11,7 @@ use Rattle.ledger.specs.declared.Use as uses
 use Rattle.ledger.specs.declared.Use.the-variants as used
 use Rattle.ledger.specs.View as ledger
 use Rattle.house.specs.Event.{Event}
-use Rattle.house.specs.Machine.{Hw, Forgotten, counted, withMem, put}
+use Rattle.house.specs.Machine.{Hw, counted, withMem, put}
 use Rattle.house.specs.Meaning.{Loan, Lent, Use, House, Of, isIn, Now}
 use Rattle.house.specs.Sound.{isPage}
 use Rattle.house.specs.Sound as sound

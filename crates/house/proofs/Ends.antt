@@ -3,9 +3,9 @@ use mathlib.Core.Path.{_≡_, refl, sym, ap, subst, fun-ext, _∙_}
 use mathlib.Core.Bool.{Bool, true, false, cond, not, _&&_, _||_}
 use mathlib.Core.Logic.{⊎-elim}
 use mathlib.Core.List.{List, [], _∷_}
-use Prim.Native.Nat.{ℕ, zero, suc, _+_, _*_, _<_, _≤_}
+use Prim.Native.Nat.{ℕ, zero, suc, _<_, _≤_}
 use native.Mathlib.Omega.{arith}
-use lib.Dec.{T, eqb, ltb, leb, eqb→eq, T-not, not-T}
+use lib.Dec.{T, eqb, ltb, eqb→eq, T-not, not-T}
 use Rattle.std.proofs.shelf.Tests.{cases-eq, cases-lt, eq-eqb, ne-eqb, lt-ltb, lt-leb, le-leb, ltb-true, cond-both, false≢true}
 use Rattle.ledger.specs.declared.Loan as loans
 use Rattle.ledger.specs.declared.Loan.the-variants as loan
@@ -26,7 +26,7 @@ use Rattle.house.specs.declared.Answer.the-variants.{Done, Later, No}
 use Rattle.house.specs.declared.refusals.Refusal.{Refusal}
 use Rattle.house.specs.declared.refusals.Refusal.the-variants.{OutOfRange, NoPage, Occupied, WrongLoan, NotYours, Held, NoFrame, NotPermitted, NotBuilt}
 use Rattle.house.specs.Event.{Event, Told}
-use Rattle.house.specs.Machine.{Hw, Shown, Nothing}
+use Rattle.house.specs.Machine.{Hw, Nothing}
 use Rattle.house.specs.Meaning
 use Rattle.house.specs.Meaning.{State, Loan, Home, Lent, Leaving, Use, Of, Dev, isIn, every, any, isShut, ownerIs, mapLoan, leaving, deviceOf, notOf, shutAll, allDrained, setUse, why, acts, excused, takesFrame, loosens, out, Now, Quiet, Under, Over}
 use Rattle.house.specs.Promise.{can, startOf}
@@ -36,7 +36,7 @@ use Rattle.house.specs.Refusals.{numberOf, EndRefused}
 use Rattle.house.specs.Serving.{Progress, nothingCut, Holds, Keeps, Begins}
 use Rattle.house.specs.Unmapping.{Hid, count}
 use Rattle.house.specs.Closures.{below, closedLoan, closedUse, closedAll, showsSome, bare, bared, allIn, ClosedSoFar}
-use Rattle.house.proofs.Shelf.{both, pair, neither, not-not, not-both, decide, left, right, is-true, is-false, from-true, from-false, any-some, any-from, same-number}
+use Rattle.house.proofs.Shelf.{both, pair, neither, not-not, not-both, decide, left, is-true, is-false, from-true, from-false, any-some, any-from, same-number}
 use Rattle.house.proofs.Rooms.{registers-ok, loan-ok}
 use Rattle.house.proofs.MeaningUses.{shut-all}
 use Rattle.house.proofs.Calls.{all-drained}

@@ -1,38 +1,23 @@
 -- All devices of a program closed at once: the room's change is the meaning's.
-use mathlib.Core.Path.{_≡_, refl, sym, ap, subst, fun-ext, _∙_}
-use mathlib.Core.Bool.{Bool, true, false, cond, _&&_, _||_, not}
-use mathlib.Core.Logic.{⊎-elim}
-use mathlib.Core.List.{List, [], _∷_}
+use mathlib.Core.Path.{_≡_, refl, sym, ap, subst, _∙_}
+use mathlib.Core.Bool.{Bool, true, false, cond}
 use Prim.Native.Nat.{ℕ, zero, suc, _<_, _≤_}
 use native.Mathlib.Omega.{arith}
-use lib.Dec.{T, eqb, ltb, eqb→eq, T-not}
-use Rattle.std.proofs.shelf.Tests.{cases-eq, eq-eqb, ne-eqb, lt-ltb, cond-both, false≢true}
-use Rattle.ledger.specs.declared.Loan as loans
-use Rattle.ledger.specs.declared.Loan.the-variants as loan
-use Rattle.ledger.specs.declared.Use as uses
-use Rattle.ledger.specs.declared.Use.the-variants as used
-use Rattle.ledger.specs.declared.Place.{Place}
-use Rattle.ledger.specs.declared.Place.the-variants as place
-use Rattle.ledger.specs.declared.Device.{Device}
+use lib.Dec.{T}
 use Rattle.ledger.specs.declared.Device.the-variants as device
 use Rattle.ledger.specs.View as ledger
 use Rattle.ledger.specs.Uses as tests
 use Rattle.ledger.specs.Changes as changes
-use Rattle.ledger.specs.Consistent.{Coherent}
-use Rattle.ledger.proofs.Entries.{same-view}
 use Rattle.house.specs.Machine.{Hw, Forgotten}
-use Rattle.house.specs.Meaning.{Loan, Home, Use, Of, Dev, State, isIn, ownerIs, mapLoan, leavingFrom, leaving, deviceOf, any, notOf, shut, shutting, shutAll}
-use Rattle.house.specs.Sound.{viewOf, SoundAt, Words, Shape}
-use Rattle.house.specs.Kept.{Kept, useMeant, loanMeant, devMeant, tablesIn}
-use Rattle.house.specs.Closures.{closedAs, below, closedLoan, closedUse, closedAll, bare, bared}
-use Rattle.house.proofs.Shelf.{both, pair, choose, is-true, is-false, from-true, from-false, any-some, any-from, same-number}
-use Rattle.house.proofs.MeaningUses.{shut-all}
-use Rattle.house.proofs.Rooms.{registers-ok, loan-ok}
-use Rattle.house.proofs.Uses.{pageless}
+use Rattle.house.specs.Meaning.{State, isIn, ownerIs, leavingFrom, shut, shutting, shutAll}
+use Rattle.house.specs.Sound.{viewOf, SoundAt, Words}
+use Rattle.house.specs.Kept.{Kept, tablesIn}
+use Rattle.house.specs.Closures.{closedAs, below, closedAll}
+use Rattle.house.proofs.Shelf.{choose, is-true, is-false}
 use Rattle.house.proofs.Shutting.{shutting-state}
 use Rattle.house.proofs.PageWords.{words-shut, words-loans}
 use Rattle.house.proofs.Closed.{owner-meant, kept-shut, kept-shutting, kept-unregistered, shut-sound}
-use Rattle.house.proofs.ClosedViews.{unshownAll, unshown, closed-yes, closed-no, closed-none, closed-skip, unshown-more, unshown-none, unshown-skip, below-none, below-self, below-next, below-other}
+use Rattle.house.proofs.ClosedViews.{unshownAll, closed-yes, closed-no, closed-none, closed-skip, unshown-more, unshown-none, unshown-skip, below-none, below-self, below-next, below-other}
 
 -- the room's view and the hardware are as a state says
 pub record Settled (v : ledger.View) (x : State) (h : Hw) : Type 0 where

@@ -1,9 +1,8 @@
 // close: a device is shut once the IOMMU has forgotten it, and closing until then.
 ghost use mathlib.Core.Path.{_≡_};
 ghost use mathlib.Core.Bool.{true, false};
-ghost use mathlib.Core.List.{List, _∷_};
-ghost use Prim.Native.Nat.{ℕ, _+_, _*_, _<_, _≤_};
-ghost use lib.ListN.{length};
+ghost use mathlib.Core.List.{_∷_};
+ghost use Prim.Native.Nat.{ℕ, _<_, _≤_};
 ghost use Rattle.std.specs.Results.{Cases};
 ghost use Rattle.ledger.specs.declared.Place.the-variants.{Registers};
 ghost use Rattle.ledger.specs.Room.{deviceOf, placeOf};

@@ -1,8 +1,8 @@
 // end: a program's devices are closed, and once all of them were forgotten its pages are idle.
 ghost use mathlib.Core.Path.{_≡_};
 ghost use mathlib.Core.Bool.{true, false};
-ghost use mathlib.Core.List.{List, _∷_};
-ghost use Prim.Native.Nat.{ℕ, _+_, _*_, _<_, _≤_};
+ghost use mathlib.Core.List.{_∷_};
+ghost use Prim.Native.Nat.{ℕ, _<_, _≤_};
 ghost use Rattle.std.specs.Results.{Cases};
 ghost use Rattle.ledger.specs.declared.Place.the-variants.{Registers};
 ghost use Rattle.ledger.specs.Room.{deviceOf, placeOf};

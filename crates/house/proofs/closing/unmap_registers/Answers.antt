@@ -1,14 +1,12 @@
 use mathlib.Core.Path.{_≡_, refl, sym, ap, subst, _∙_}
-use mathlib.Core.Bool.{cond, _&&_}
 use mathlib.Core.List.{List}
 use Prim.Native.Nat.{ℕ, _+_}
 use native.Mathlib.Omega.{arith}
-use lib.Dec.{eqb, ltb}
 use Rattle.std.proofs.shelf.Tests.{eq-eqb, le-ltb}
 use Rattle.ledger.specs.Room.{placeOf}
 use Rattle.ledger.specs.Uses.{showsRegisters}
 use Rattle.ledger.specs.View.{viewOf, View}
-use Rattle.ledger.specs.Changes.{hiddenBelow, withoutRegisters}
+use Rattle.ledger.specs.Changes.{hiddenBelow}
 use Rattle.ledger.proofs.Emptied.{hidden-none, hidden-more, hidden-all}
 use Rattle.house.specs.Unmapping.{Hid}
 use Rattle.house.proofs.Unmapped.{hid-none, hid-skip, hid-more, still-left}

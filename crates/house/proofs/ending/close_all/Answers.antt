@@ -1,9 +1,3 @@
-use mathlib.Core.Path.{_≡_, sym, ap, _∙_}
-use mathlib.Core.Bool.{true, false, Bool}
-use Prim.Native.Nat.{ℕ}
-use Rattle.ledger.specs.Uses.{ownerIs}
-use Rattle.ledger.specs.View.{View}
-use Rattle.house.specs.Closures.{ClosedSoFar}
 use Rattle.house.proofs.ClosedTurns.{closed-start, closed-turn, turn-owner}
 use Rattle.house.proofs.ending.close_all.Needs as need
 
