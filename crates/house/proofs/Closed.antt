@@ -23,9 +23,8 @@ use Rattle.house.specs.Meaning.{Loan, Home, Lent, Leaving, Use, House, TableOf
 use Rattle.house.specs.Sound.{viewOf, SoundAt, Held}
 use Rattle.house.specs.Kept.{KeptIn, useMeant, loanMeant, devMeant, regsMeant, tablesIn}
 use Rattle.house.specs.Closures.{closedAs}
-use Rattle.house.proofs.Shelf.{both, differ, from-true}
+use Rattle.house.proofs.Shelf.{both, differ, from-true, at-one, there}
 use Rattle.house.proofs.Keeping.{meant-change}
-use Rattle.house.proofs.Facts.{change-at, change-off}
 use Rattle.house.proofs.Tables.{tables-agree}
 use Rattle.house.proofs.Shutting.{shut-state}
 
@@ -158,7 +157,7 @@ unfolding isShut
 shut-sound v s h a d z f = tables-agree (shut-state s a d z (f .0) (f .1) (f .2) (f .3)) (tablesIn (changes.shutDevice d v)) tops lows
   where
     tops : (e : ℕ) → Held (viewOf (shut d s)) e → cond (eqb e d) 0 (v .top e) ≡ v .top e
-    tops e k = change-off e d 0 (v .top e) (λ q. change-at (λ (x : Dev). T (not (isShut x)) → e ≡ d → ⊥) e d Shut (s .dev e) (λ _ y _. y) (λ n _ y. n y) (k .1) q)
+    tops e k = there e d 0 (v .top e) (λ q. at-one (λ (x : Dev). T (not (isShut x)) → e ≡ d → ⊥) e d Shut (s .dev e) (λ _ y _. y) (λ n _ y. n y) (k .1) q)
 
     lows : (e i : ℕ) → T (s .slots e i && not (eqb e d)) → cond (eqb e d) 0 (v .low e i) - 1 ≡ v .low e i - 1
-    lows e i t = ap (λ (x : ℕ). x - 1) (change-off e d 0 (v .low e i) (differ e d (both (s .slots e i) (not (eqb e d)) t .1)))
+    lows e i t = ap (λ (x : ℕ). x - 1) (there e d 0 (v .low e i) (differ e d (both (s .slots e i) (not (eqb e d)) t .1)))

@@ -38,10 +38,9 @@ use Rattle.house.specs.Serving.{Progress, nothingCut, Holds, Keeps, Begins}
 use Rattle.house.specs.Operations.{Asked1}
 use Rattle.house.specs.Unmapping.{Hid}
 use Rattle.house.specs.Closures.{closedAs}
-use Rattle.house.proofs.Shelf.{is-true, from-true, left, right, in-here}
+use Rattle.house.proofs.Shelf.{is-true, from-true, left, right, in-here, at-one}
 use Rattle.house.proofs.Rooms.{registers-ok}
 use Rattle.house.proofs.Keeping.{kept-uses}
-use Rattle.house.proofs.Facts.{change-at}
 use Rattle.house.proofs.Shutting.{loosened-close, shutting-state}
 use Rattle.house.proofs.PageWords.{words-loans, words-shut}
 use Rattle.house.proofs.Steps.{steps-same, drain-split}
@@ -90,7 +89,7 @@ loosened-unlent v d f c u q w = go (v .used f)
 
     loans-go : (l : loans.Loan) → tests.leavingFrom d l ≡ loan.Lent d q w → ⊥
     loans-go loan.Home z = home-lent z
-    loans-go (loan.Lent e p x) z = change-at (λ (y : loans.Loan). y ≡ loan.Lent d q w → ⊥) d e (loan.Leaving e p x) (loan.Lent e p x) (λ _. gone e p x) (λ n y. n (let k : e ≡ d = cc in sym k)) z
+    loans-go (loan.Lent e p x) z = at-one (λ (y : loans.Loan). y ≡ loan.Lent d q w → ⊥) d e (loan.Leaving e p x) (loan.Lent e p x) (λ _. gone e p x) (λ n y. n (let k : e ≡ d = cc in sym k)) z
     loans-go (loan.Leaving e p x) z = gone e p x z
 
     go : (x : uses.Use) → tests.mapLoan (tests.leavingFrom d) x ≡ used.PageOf c u (loan.Lent d q w) → ⊥
@@ -130,7 +129,7 @@ shown-closed v co c d o a u lt =
 roots-off : (m : ℕ → ℕ) (v : ledger.View) (d : ℕ) (x : Device) (t : ℕ → ℕ) → ((a : ℕ) → x ≡ device.Opened a → ⊥) → ((e : ℕ) → (e ≡ d → ⊥) → t e ≡ v .top e) →
     ((e a : ℕ) → v .device e ≡ device.Opened a → m e ≡ cond (eqb e d || false) 0 (suc (v .top e))) → (e a : ℕ) → cond (eqb e d) x (v .device e) ≡ device.Opened a → m e ≡ suc (t e)
 roots-off m v d x t no-more same r e a =
-    change-at (λ (y : Device). y ≡ device.Opened a → m e ≡ suc (t e)) e d x (v .device e) (λ _ q. absurd (no-more a q)) (λ n q. r e a q ∙ (rw (ne-eqb e d n) (ap suc (sym (same e n)))))
+    at-one (λ (y : Device). y ≡ device.Opened a → m e ≡ suc (t e)) e d x (v .device e) (λ _ q. absurd (no-more a q)) (λ n q. r e a q ∙ (rw (ne-eqb e d n) (ap suc (sym (same e n)))))
 
 abbrev pub answered : Bool → Answer
 answered true = Done

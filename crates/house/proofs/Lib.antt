@@ -8,7 +8,6 @@ pub mod Built
 pub mod Calls
 pub mod Choices
 pub mod Clearing
-pub mod Counting
 pub mod Draining
 pub mod Facts
 pub mod Getting
