@@ -1,4 +1,4 @@
--- What holds between calls: at the start, while programs run, and after a call that is not built.
+-- What holds between calls: at the start, while programs run, and after an answer.
 use mathlib.Core.Path.{_≡_, refl, sym, subst, ap, _∙_}
 use mathlib.Core.Logic.{_⊎_, inl, inr}
 use mathlib.Core.Bool.{Bool, true, false, cond, not, _||_}
@@ -184,6 +184,3 @@ keeps-refused k b r =
 pub keeps-why : {room : List ℕ} {who : ℕ} {c : Call} {h : Hw} {es : List Event} (k : ℕ) → T (can c) → (b : Begins room who c h es) → Meaning.why (b .holds .state) who c ≡ k → 0 < k → Keeps room Quiet h (Told who c (No k) ∷ es)
 keeps-why {room} {who} {c} {h} {es} k t b e lt =
     keeps-refused k b (subst (λ (z : ℕ). Run can (startOf h) es (b .holds .state) (Over who c (No z))) e (Meaning.refused (b .holds .run) t (subst (λ (z : ℕ). 0 < z) (sym e) lt)))
-
-pub keeps-unbuilt : {room : List ℕ} {who : ℕ} {c : Call} {h : Hw} {es : List Event} → T (not (can c)) → Begins room who c h es → Keeps room Quiet h (Told who c (No 9) ∷ es)
-keeps-unbuilt n b = keeps-refused 9 b (Meaning.notBuilt (b .holds .run) n)

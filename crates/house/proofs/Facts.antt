@@ -11,6 +11,7 @@ use Rattle.std.proofs.shelf.Tests.{eq-eqb, ne-eqb, cond-both, eqb-true, eqb-fal
 use Rattle.house.specs.Machine.{Up, Mid, Leaf, put, frameIn, mayWrite, noUp, noMid, noLeaf}
 use Rattle.house.specs.Meaning.{Leaving, Use, House, TableOf, Idle, Of, Dev, reaches, isIdle}
 use Rattle.house.specs.Sound.{View, entryOf}
+use Rattle.house.proofs.Shelf.{both, differ}
 
 -- a view with other uses, another row of devices, other slots
 abbrev pub withUses : (ℕ → Use) → View → View
@@ -21,40 +22,6 @@ withDevs e v = record { frames = v .frames; devices = v .devices; what = v .what
 
 abbrev pub withSlots : (ℕ → ℕ → Bool) → View → View
 withSlots x v = record { frames = v .frames; devices = v .devices; what = v .what; dev = v .dev; slots = x }
-
--- tests
-pub test-parts : (a b : Bool) → T (a && b) → T a × T b
-test-parts true b t = (tt, t)
-test-parts false b t = absurd t
-
-pub test-both : (a b : Bool) → T a → T b → T (a && b)
-test-both true b p q = q
-test-both false b p q = absurd p
-
-pub test-either : (a b : Bool) → T (a || b) → T a ⊎ T b
-test-either true b t = inl tt
-test-either false b t = inr t
-
-pub passed : (b : Bool) → T b → b ≡ true
-passed true t = refl
-passed false t = absurd t
-
-pub failed : (b : Bool) → T (not b) → b ≡ false
-failed true t = absurd t
-failed false t = refl
-
-pub unlike : (a b : ℕ) → T (not (eqb a b)) → a ≡ b → ⊥
-unlike a b t e = T-not (eqb a b) t (subst (λ (x : ℕ). T (eqb a x)) e (eqb-refl a))
-
--- a change at one number
-pub change-at : {A : Type 0} (P : A → Type 0) (a b : ℕ) (x y : A) → (a ≡ b → P x) → ((a ≡ b → ⊥) → P y) → P (cond (eqb a b) x y)
-change-at P a b x y p q = cond-both (eqb a b) x y P (λ e. p (eqb-true a b e)) (λ e. q (eqb-false a b e))
-
-pub change-here : {A : Type 0} (a : ℕ) (x y : A) → cond (eqb a a) x y ≡ x
-change-here a x y = rw (eq-eqb a a refl)
-
-pub change-off : {A : Type 0} (a b : ℕ) (x y : A) → (a ≡ b → ⊥) → cond (eqb a b) x y ≡ y
-change-off a b x y h = rw (ne-eqb a b h)
 
 -- a word put into memory
 pub put-here : (f k x : ℕ) (m : ℕ → ℕ → ℕ) → put f k x m f k ≡ x
@@ -101,18 +68,18 @@ place-of-page i j l = omega arith
 -- nothing of a device is known
 pub no-up : (d : ℕ) (u : Up) (us : List Up) → T (noUp d us) → List·Memᴰ u us → u .dev ≡ d → ⊥
 unfolding noUp
-no-up d u _ t (List·Memᴰ·head {x = x} {xs = xs} e) h = unlike d (x .dev) (test-parts (not (eqb d (x .dev))) (noUp d xs) t .0) (sym h ∙ ap (λ (y : Up). y .dev) e)
-no-up d u _ t (List·Memᴰ·tail {x = x} {xs = xs} m) h = no-up d u xs (test-parts (not (eqb d (x .dev))) (noUp d xs) t .1) m h
+no-up d u _ t (List·Memᴰ·head {x = x} {xs = xs} e) h = differ d (x .dev) (both (not (eqb d (x .dev))) (noUp d xs) t .0) (sym h ∙ ap (λ (y : Up). y .dev) e)
+no-up d u _ t (List·Memᴰ·tail {x = x} {xs = xs} m) h = no-up d u xs (both (not (eqb d (x .dev))) (noUp d xs) t .1) m h
 
 pub no-mid : (d : ℕ) (u : Mid) (us : List Mid) → T (noMid d us) → List·Memᴰ u us → u .dev ≡ d → ⊥
 unfolding noMid
-no-mid d u _ t (List·Memᴰ·head {x = x} {xs = xs} e) h = unlike d (x .dev) (test-parts (not (eqb d (x .dev))) (noMid d xs) t .0) (sym h ∙ ap (λ (y : Mid). y .dev) e)
-no-mid d u _ t (List·Memᴰ·tail {x = x} {xs = xs} m) h = no-mid d u xs (test-parts (not (eqb d (x .dev))) (noMid d xs) t .1) m h
+no-mid d u _ t (List·Memᴰ·head {x = x} {xs = xs} e) h = differ d (x .dev) (both (not (eqb d (x .dev))) (noMid d xs) t .0) (sym h ∙ ap (λ (y : Mid). y .dev) e)
+no-mid d u _ t (List·Memᴰ·tail {x = x} {xs = xs} m) h = no-mid d u xs (both (not (eqb d (x .dev))) (noMid d xs) t .1) m h
 
 pub no-leaf : (d : ℕ) (u : Leaf) (us : List Leaf) → T (noLeaf d us) → List·Memᴰ u us → u .dev ≡ d → ⊥
 unfolding noLeaf
-no-leaf d u _ t (List·Memᴰ·head {x = x} {xs = xs} e) h = unlike d (x .dev) (test-parts (not (eqb d (x .dev))) (noLeaf d xs) t .0) (sym h ∙ ap (λ (y : Leaf). y .dev) e)
-no-leaf d u _ t (List·Memᴰ·tail {x = x} {xs = xs} m) h = no-leaf d u xs (test-parts (not (eqb d (x .dev))) (noLeaf d xs) t .1) m h
+no-leaf d u _ t (List·Memᴰ·head {x = x} {xs = xs} e) h = differ d (x .dev) (both (not (eqb d (x .dev))) (noLeaf d xs) t .0) (sym h ∙ ap (λ (y : Leaf). y .dev) e)
+no-leaf d u _ t (List·Memᴰ·tail {x = x} {xs = xs} m) h = no-leaf d u xs (both (not (eqb d (x .dev))) (noLeaf d xs) t .1) m h
 
 -- uses
 pub is-idle : (u : Use) → T (isIdle u) → u ≡ Idle
@@ -138,6 +105,6 @@ same-table u d e p q = cc
 pub reached-at : (d p : ℕ) (w x : Bool) (e q : ℕ) → T (reaches d p w (Leaving e q x)) → (d ≡ e) × (p ≡ q)
 unfolding reaches
 reached-at d p w x e q t =
-    let a = test-parts (eqb d e && eqb p q) (x || not w) t .0 in
-    let b = test-parts (eqb d e) (eqb p q) a in
+    let a = both (eqb d e && eqb p q) (x || not w) t .0 in
+    let b = both (eqb d e) (eqb p q) a in
     (eqb→eq d e (b .0), eqb→eq p q (b .1))

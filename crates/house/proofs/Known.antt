@@ -1,4 +1,4 @@
--- What the unit knows of a device, and that forgetting leaves less of it.
+-- What the unit knows of a device, pair that forgetting leaves less of it.
 -- Assumes nothing.
 use mathlib.Core.Path.{_≡_, refl, sym, _∙_, ap, subst}
 use mathlib.Core.Logic.{_⊎_, inl, inr}
@@ -7,9 +7,9 @@ use mathlib.Core.List.{List, [], _∷_, List·Memᴰ, List·Memᴰ·head, List·
 use Prim.Native.Nat.{ℕ, zero, suc}
 use lib.Dec.{T, T-not, not-T, eqb, eqb→eq}
 use Rattle.house.specs.Machine.{Up, Mid, Leaf, dropOne, noUp, noMid, noLeaf}
-use Rattle.house.proofs.Counting.{both, and, eq-test}
+use Rattle.house.proofs.Shelf.{both, pair, same-number}
 
--- what holds of a new element and of the others holds of all
+-- what holds of a new element pair of the others holds of all
 pub all-cons : {A : Type 0} (P : A → Type 0) (x : A) (xs : List A) → P x → ((y : A) → List·Memᴰ y xs → P y) → (y : A) → List·Memᴰ y (x ∷ xs) → P y
 all-cons {A} P x xs new old y m = go (List·Memᴰ·cases-cons m)
   where
@@ -34,11 +34,11 @@ module _ {A : Type 0} (dev : A → ℕ) (d : ℕ) (free : List A → Bool) (none
   not-of (y ∷ ys) h x m = go (not-of ys) (both (not (eqb d (dev y))) (free ys) (subst T (more y ys) h)) (List·Memᴰ·cases-cons m)
     where
       go : (T (free ys) → (z : A) → List·Memᴰ z ys → d ≡ dev z → ⊥) → T (not (eqb d (dev y))) × T (free ys) → (x ≡ y) ⊎ List·Memᴰ x ys → d ≡ dev x → ⊥
-      go deeper p (inl e) q = T-not (eqb d (dev y)) (p .0) (eq-test d (dev y) (q ∙ ap dev e))
+      go deeper p (inl e) q = T-not (eqb d (dev y)) (p .0) (same-number d (dev y) (q ∙ ap dev e))
       go deeper p (inr r) q = deeper (p .1) x r q
 
   free-cons : (x : A) (xs : List A) → (d ≡ dev x → ⊥) → T (free xs) → T (free (x ∷ xs))
-  free-cons x xs h r = subst T (sym (more x xs)) (and (not (eqb d (dev x))) (free xs) (not-T (eqb d (dev x)) (λ (q : T (eqb d (dev x))). h (eqb→eq d (dev x) q))) r)
+  free-cons x xs h r = subst T (sym (more x xs)) (pair (not (eqb d (dev x))) (free xs) (not-T (eqb d (dev x)) (λ (q : T (eqb d (dev x))). h (eqb→eq d (dev x) q))) r)
 
   free-from : (xs : List A) → ((x : A) → List·Memᴰ x xs → d ≡ dev x → ⊥) → T (free xs)
   free-from [] h = none

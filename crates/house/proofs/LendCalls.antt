@@ -37,8 +37,8 @@ use Rattle.house.specs.Lends.{Untaken, Lendable}
 use Rattle.house.specs.Operations.{Cleared}
 use Rattle.house.specs.Refusals.{numberOf, LendRefused}
 use Rattle.house.specs.Serving.{nothingCut, Holds, Keeps, Begins}
-use Rattle.house.proofs.Shelf.{is-true, is-false, from-true, from-false, left, right, pair, none-any, any-from, any-none, same-number}
-use Rattle.house.proofs.Facts.{withUses, change-at, put-here, put-elsewhere, put-beside}
+use Rattle.house.proofs.Shelf.{is-true, is-false, from-true, from-false, left, right, pair, none-any, any-from, any-none, same-number, at-one}
+use Rattle.house.proofs.Facts.{withUses, put-here, put-elsewhere, put-beside}
 use Rattle.house.proofs.Rooms.{Inside, inside-room, below, idle-frame, page-has, page-use, no-page, no-idle, loan-away}
 use Rattle.house.proofs.Keeping.{kept-use, kept-low}
 use Rattle.house.proofs.PageWords.{words-put, words-page, words-none}
@@ -316,7 +316,7 @@ lent-alone room n d p w free f g e q lt a b =
 
 untaken-lower : (v : ledger.View) (d p e j f : ℕ) → Untaken v d p → Untaken (lowerAt e j f v) d p
 untaken-lower v d p e j f free g =
-    change-at (λ (x : uses.Use). tests.isAt d p (tests.loanIn x) ≡ true → ⊥) g f (used.TableOf e (which.Lower j)) (v .used g) (λ _ z. false≢true z) (λ _ z. free g z)
+    at-one (λ (x : uses.Use). tests.isAt d p (tests.loanIn x) ≡ true → ⊥) g f (used.TableOf e (which.Lower j)) (v .used g) (λ _ z. false≢true z) (λ _ z. free g z)
 
 -- what `set_loan` asks, once the lower table is in the room
 pub lower-ready : (room room2 : List ℕ) (t : ℕ) {n k m who u f d p j : ℕ} {w : Bool} {x : loans.Loan} → n ≡ k → Lendable (ledger.viewOf k room) m who u f d p → m ≤ 32 → j ≡ p / 512 → ledger.viewOf n room2 ≡ lowerAt d j t (ledger.viewOf n room) → x ≡ loan.Lent d p w →

@@ -10,7 +10,8 @@ use Rattle.std.proofs.shelf.Tests.{cases-eq, eq-eqb, ne-eqb}
 use Rattle.house.specs.Machine.{Up, Mid, Leaf, put}
 use Rattle.house.specs.Meaning.{Home, Lent, Leaving, Use, TableOf, Idle, Of, useAt}
 use Rattle.house.specs.Sound.{Tables, View, Held, Good, Sound, entryOf}
-use Rattle.house.proofs.Facts.{withUses, withSlots, change-at, change-here, change-off, put-here, put-elsewhere, page-back}
+use Rattle.house.proofs.Facts.{withUses, withSlots, put-here, put-elsewhere, page-back}
+use Rattle.house.proofs.Shelf.{at-one, here, there}
 use Rattle.house.proofs.Uses.{good-leaving, home-to-leaving, settle-lent, uses-same, paged, lentless}
 use Rattle.house.proofs.Tables.{withLow, link, put-entry, low-not-root, top-not-root}
 
@@ -32,11 +33,11 @@ or-right-true false = tt
 module _ {t : Tables} {v : View} {mem : ℕ → ℕ → ℕ} {live : Bool} {ups : List Up} {mids : List Mid} {leaves flying : List Leaf} (s : Sound t v mem live ups mids leaves flying)
     (g c u d p : ℕ) (w : Bool) (bound : g < v .frames) (home : v .what g ≡ Of c u Home) (run : T live) (held : Held v d) (page : p < 262144) (root : mem 0 d ≡ suc (t .top d)) where
   unused-there : ((f a b : ℕ) (x : Bool) → f < v .frames → v .what f ≡ Of a b (Lent d p x) → ⊥) → (f a b : ℕ) (x : Bool) → f < v .frames → useAt g (Of c u (Leaving d p w)) (v .what) f ≡ Of a b (Lent d (512 * (p / 512) + p % 512) x) → ⊥
-  unused-there unused f a b x l = change-at (λ (y : Use). y ≡ Of a b (Lent d (512 * (p / 512) + p % 512) x) → ⊥) f g (Of c u (Leaving d p w)) (v .what f) (λ _ e. subst lentless e tt) (λ _ e. unused f a b x l (e ∙ ap (λ (q : ℕ). Of a b (Lent d q x)) (page-back p)))
+  unused-there unused f a b x l = at-one (λ (y : Use). y ≡ Of a b (Lent d (512 * (p / 512) + p % 512) x) → ⊥) f g (Of c u (Leaving d p w)) (v .what f) (λ _ e. subst lentless e tt) (λ _ e. unused f a b x l (e ∙ ap (λ (q : ℕ). Of a b (Lent d q x)) (page-back p)))
 
   fresh : Good (withUses (useAt g (Of c u (Leaving d p w)) (v .what)) v) d (512 * (p / 512) + p % 512) (entryOf g w)
   fresh = subst (λ (q : ℕ). Good (withUses (useAt g (Of c u (Leaving d p w)) (v .what)) v) d q (entryOf g w)) (sym (page-back p))
-      (good-leaving (withUses (useAt g (Of c u (Leaving d p w)) (v .what)) v) g c u d p w bound (change-here g (Of c u (Leaving d p w)) (v .what g)))
+      (good-leaving (withUses (useAt g (Of c u (Leaving d p w)) (v .what)) v) g c u d p w bound (here g (Of c u (Leaving d p w)) (v .what g)))
 
   -- its entry is written in a lower table that is there
   pub lend-entry : T (v .slots d (p / 512)) → ((f a b : ℕ) (x : Bool) → f < v .frames → v .what f ≡ Of a b (Lent d p x) → ⊥) →
@@ -44,7 +45,7 @@ module _ {t : Tables} {v : View} {mem : ℕ → ℕ → ℕ} {live : Bool} {ups 
   lend-entry there unused =
       let s1 = home-to-leaving s g c u d p w home in
       let s2 = put-entry s1 d (p / 512) (p % 512) (entryOf g w) there (inr fresh) (unused-there unused) in
-      let s3 = settle-lent s2 g c u d p w (change-here g (Of c u (Leaving d p w)) (v .what g)) (record {
+      let s3 = settle-lent s2 g c u d p w (here g (Of c u (Leaving d p w)) (v .what g)) (record {
         started = run;
         held = held;
         page = page;
@@ -59,8 +60,8 @@ module _ {t : Tables} {v : View} {mem : ℕ → ℕ → ℕ} {live : Bool} {ups 
       Sound (withLow d (p / 512) f t) (withSlots (λ e j. v .slots e j || (eqb e d && eqb j (p / 512))) (withUses (useAt f (TableOf d) (useAt g (Of c u (Lent d p w)) (v .what))) v)) (put (t .top d) (p / 512) (suc f) mem) live ups mids leaves flying
   lend-linked f small idle free entry zeros =
       let s1 = home-to-leaving s g c u d p w home in
-      let s2 = link s1 f d (p / 512) small (change-off f g (Of c u (Leaving d p w)) (v .what f) other ∙ idle) held free words in
-      let s3 = settle-lent s2 g c u d p w (change-off g f (TableOf d) (useAt g (Of c u (Leaving d p w)) (v .what) g) (λ z. other (sym z)) ∙ change-here g (Of c u (Leaving d p w)) (v .what g)) (record {
+      let s2 = link s1 f d (p / 512) small (there f g (Of c u (Leaving d p w)) (v .what f) other ∙ idle) held free words in
+      let s3 = settle-lent s2 g c u d p w (there g f (TableOf d) (useAt g (Of c u (Leaving d p w)) (v .what) g) (λ z. other (sym z)) ∙ here g (Of c u (Leaving d p w)) (v .what g)) (record {
         started = run;
         held = held;
         page = page;

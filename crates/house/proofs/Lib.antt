@@ -8,7 +8,6 @@ pub mod Built
 pub mod Calls
 pub mod Choices
 pub mod Clearing
-pub mod Counting
 pub mod Draining
 pub mod Facts
 pub mod Getting
@@ -42,3 +41,13 @@ pub mod Table
 pub mod Tables
 pub mod Uses
 pub mod Words
+pub mod Cutting
+pub mod Unmapped
+pub mod Closed
+pub mod Closes
+pub mod Beyond
+pub mod ClosedViews
+pub mod Bared
+pub mod ClosedTurns
+pub mod Settled
+pub mod Ends

@@ -30,10 +30,9 @@ use Rattle.house.specs.Kept.{Kept, useMeant, devMeant}
 use Rattle.house.specs.Operations.{Clears, Cleared}
 use Rattle.house.specs.Refusals.{numberOf, GroupHeld, GroupFree, OpenRefused}
 use Rattle.house.specs.Serving.{nothingCut, Holds, Keeps, Begins}
-use Rattle.house.proofs.Shelf.{both, pair, nor, left, right, is-true, is-false, from-true, same-number, any-from, none-any}
+use Rattle.house.proofs.Shelf.{both, pair, nor, left, right, is-true, is-false, from-true, same-number, any-from, none-any, there}
 use Rattle.house.proofs.Rooms.{Inside, inside-room, idle-frame, no-idle}
 use Rattle.house.proofs.Keeping.{kept-use, kept-device, kept-top}
-use Rattle.house.proofs.Facts.{change-off}
 use Rattle.house.proofs.Tables.{open-device}
 use Rattle.house.proofs.PageWords.{words-put, words-none}
 use Rattle.house.proofs.Steps.{steps-same}
@@ -127,7 +126,7 @@ open-done {v} {c} {d} {f} {h} co i lt e x g b y z a =
       shown = a .shown;
       roots = λ k o q. ⊎-elim
           (λ (r : k ≡ d). rw (eq-eqb k d r))
-          (λ (r : k ≡ d → ⊥). let old = a .roots k o (sym (change-off k d (device.Opened c) (v .device k) r) ∙ q) in rw (ne-eqb k d r) old)
+          (λ (r : k ≡ d → ⊥). let old = a .roots k o (sym (there k d (device.Opened c) (v .device k) r) ∙ q) in rw (ne-eqb k d r) old)
           (cases-eq k d);
       severed = λ k t. absurd t;
       forgot = λ k t n. absurd t;

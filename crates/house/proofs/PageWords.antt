@@ -8,7 +8,8 @@ use Rattle.std.proofs.shelf.Tests.{eq-eqb}
 use Rattle.house.specs.Machine.{put}
 use Rattle.house.specs.Meaning.{Loan, Use, House, TableOf, Idle, Of, useAt, mapLoan, homeFrom, noTable, notOf}
 use Rattle.house.specs.Sound.{View, Words, isPage}
-use Rattle.house.proofs.Facts.{withUses, change-at, change-off, put-elsewhere}
+use Rattle.house.proofs.Facts.{withUses, put-elsewhere}
+use Rattle.house.proofs.Shelf.{at-one, there}
 use Rattle.house.proofs.Uses.{pageless}
 
 -- a page has an owner, a place and a loan
@@ -33,7 +34,7 @@ loans-page g (Of a b m) c u l e = tt
 shut-page : (d : ℕ) (x : Use) (c u : ℕ) (l : Loan) → noTable d (mapLoan (homeFrom d) x) ≡ Of c u l → T (isPage x)
 unfolding mapLoan noTable isPage
 shut-page d House c u l e = subst pageless e tt
-shut-page d (TableOf a) c u l e = subst pageless e (change-at pageless d a Idle (TableOf a) (λ _. tt) (λ _. tt))
+shut-page d (TableOf a) c u l e = subst pageless e (at-one pageless d a Idle (TableOf a) (λ _. tt) (λ _. tt))
 shut-page d Idle c u l e = subst pageless e tt
 shut-page d (Of a b m) c u l e = tt
 
@@ -53,7 +54,7 @@ module _ (v : View) {word mem : ℕ → ℕ → ℕ} (w : Words v word mem) wher
   -- one frame's use changes
   pub words-use : (f : ℕ) (new : Use) → ((c u : ℕ) (l : Loan) → f < v .frames → new ≡ Of c u l → T (isPage (v .what f)) ⊎ ((k : ℕ) → k < 512 → word f k ≡ mem f k)) → Words (withUses (useAt f new (v .what)) v) word mem
   words-use f new was =
-      words-uses (useAt f new (v .what)) (λ g c u l b. change-at (λ (x : Use). x ≡ Of c u l → T (isPage (v .what g)) ⊎ ((k : ℕ) → k < 512 → word g k ≡ mem g k)) g f new (v .what g)
+      words-uses (useAt f new (v .what)) (λ g c u l b. at-one (λ (x : Use). x ≡ Of c u l → T (isPage (v .what g)) ⊎ ((k : ℕ) → k < 512 → word g k ≡ mem g k)) g f new (v .what g)
       (λ z e. subst (λ (x : ℕ). T (isPage (v .what x)) ⊎ ((k : ℕ) → k < 512 → word x k ≡ mem x k)) (sym z) (was c u l (subst (λ (x : ℕ). x < v .frames) z b) e))
       (λ _ e. inl (is-page (v .what g) c u l e)))
 
@@ -85,6 +86,6 @@ module _ (v : View) {word mem : ℕ → ℕ → ℕ} (w : Words v word mem) wher
   -- a new page is noughts
   pub words-get : (f : ℕ) (new : Use) → ((k : ℕ) → k < 512 → mem f k ≡ 0) → Words (withUses (useAt f new (v .what)) v) (λ g k. cond (eqb g f) 0 (word g k)) mem
   words-get f new zeros g c u k l b =
-      change-at (λ (x : Use). x ≡ Of c u l → k < 512 → cond (eqb g f) 0 (word g k) ≡ mem g k) g f new (v .what g)
+      at-one (λ (x : Use). x ≡ Of c u l → k < 512 → cond (eqb g f) 0 (word g k) ≡ mem g k) g f new (v .what g)
       (λ z e h. rw (eq-eqb g f z) (sym (ap (λ (y : ℕ). mem y k) z ∙ zeros k h)))
-      (λ n e h. change-off g f 0 (word g k) n ∙ w g c u k l b e h)
+      (λ n e h. there g f 0 (word g k) n ∙ w g c u k l b e h)

@@ -12,7 +12,8 @@ use Rattle.house.specs.Machine.{Shown, Nothing, Frame, Registers, Hw, Runs, Co
 use Rattle.house.specs.Meaning.{Loan, Use, House, TableOf, Idle, Of, State, Quiet, Under, Run, isOf, setWord, setDrains}
 use Rattle.house.specs.Simulation.{Begun}
 use Rattle.house.specs.Sound.{Tables, viewOf, SoundAt, Words, Shape, Same, Steady, Ran, ShownAt, ShowsRight, ShowsIn, isPage}
-use Rattle.house.proofs.Memory.{put-else, words-put, other-frame, put-keeps}
+use Rattle.house.proofs.Facts.{put-elsewhere}
+use Rattle.house.proofs.Memory.{words-put, other-frame, put-keeps}
 use Rattle.house.proofs.Steps.{same-none, same-then, same-mem, step-same, shape-same, step-keeps, no-page-home}
 
 pub runs-same : {h : Hw} {es : List Event} {j : Hw} {gs : List Event} → Runs h es j gs → Same h j
@@ -75,7 +76,7 @@ stored can start t s es h c v f k x sound words run r =
       sound = put-keeps f k x p sound;
       words = words-put (viewOf s) (s .word) (h .mem) f k x words;
       same = same-mem (put f k x (h .mem)) h;
-      quiet = λ g j q. put-else f k x (h .mem) g j (other-frame (viewOf s) f g p q);
+      quiet = λ g j q. put-elsewhere f k x (h .mem) g j (other-frame (viewOf s) f g p q);
     }
 
 poked : (can : Call → Bool) (start : State) (s : State) (es : List Event) (c v d : ℕ) → Run can start es s Quiet → ShowsRight s c v (Registers d) → Run can start (Poked c v d ∷ es) s Quiet

@@ -30,8 +30,8 @@ use Rattle.house.specs.Kept.{Kept, tablesIn, useMeant, loanMeant}
 use Rattle.house.specs.Mappings.{recalled, Away, Settled}
 use Rattle.house.specs.Refusals.{numberOf, IfNo, RecallRefused}
 use Rattle.house.specs.Serving.{Progress, nothingCut, Holds, Keeps, Begins}
-use Rattle.house.proofs.Shelf.{is-true, is-false, left, right, in-here, other-number}
-use Rattle.house.proofs.Facts.{change-at, change-here, put-here, put-elsewhere, page-back}
+use Rattle.house.proofs.Shelf.{is-true, is-false, left, right, in-here, other-number, at-one, here}
+use Rattle.house.proofs.Facts.{put-here, put-elsewhere, page-back}
 use Rattle.house.proofs.Rooms.{Inside, inside-room, page-there, page-shown, page-has, page-use, no-page, loan-there}
 use Rattle.house.proofs.Keeping.{kept-use}
 use Rattle.house.proofs.Uses.{use-leaving, come-home}
@@ -200,7 +200,7 @@ acts-later {c} {u} {f} {d} {p} {w} s g is t =
   where
     same : (j : ℕ) → useAt (frameOf s c u) (Of c u (leaving (Meaning.loan s c u))) (s .what) j ≡ s .what j
     same j =
-        change-at (λ (x : Use). x ≡ s .what j) j (frameOf s c u) (Of c u (leaving (Meaning.loan s c u))) (s .what j)
+        at-one (λ (x : Use). x ≡ s .what j) j (frameOf s c u) (Of c u (leaving (Meaning.loan s c u))) (s .what j)
         (λ e. ap (Of c u) (g .leaves) ∙ sym (ap (s .what) (e ∙ g .frame) ∙ is))
         (λ _. refl)
 
@@ -326,7 +326,7 @@ unmapped {room} {room2} {who} {u} {n} {f} {d} {p} {t} {w} {h} {i} {es} {fs} q b 
     let v2 = ledger.viewOf n room2 in
     let a : Holds v (nothingCut [] []) (Under who (Recall u)) h es = subst (λ (z : ℕ). Holds (ledger.viewOf z room) (nothingCut [] []) (Under who (Recall u)) h es) (sym q) (b .holds) in
     let co : Coherent v = subst (λ (z : ℕ). Coherent (ledger.viewOf z room)) (sym q) (b .tidy .coherent) in
-    let is : v2 .used f ≡ used.PageOf who u (loan.Leaving d p w) = ap (λ (z : ledger.View). z .used f) e ∙ change-here f (used.PageOf who u (loan.Leaving d p w)) (v .used f) in
+    let is : v2 .used f ≡ used.PageOf who u (loan.Leaving d p w) = ap (λ (z : ledger.View). z .used f) e ∙ here f (used.PageOf who u (loan.Leaving d p w)) (v .used f) in
     let table : v2 .low d (p / 512) ≡ suc t = ap (λ (z : ledger.View). z .low d (p / 512)) e ∙ x .table in
     let page : Away v2 who u f d p t w = record { shown = page-shown (k .coherent) who u f (loan.Leaving d p w) is; loan = ap (λ (z : uses.Use). recalled (tests.loanIn z)) is; device = x .device; page = x .page; table = table } in
     let l : Left v2 n who u f d p t w = record { coherent = k .coherent; inside = inside-room n room2; place = lt; is = is; table = table; page = page } in

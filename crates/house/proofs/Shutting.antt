@@ -10,15 +10,16 @@ use Rattle.house.specs.Machine.{Up, Mid, Leaf, frameIn, noUp, noMid, noLeaf}
 use Rattle.house.specs.declared.Call.the-variants.{Close, Recall, End}
 use Rattle.house.specs.Meaning.{Loan, Home, Lent, Leaving, Use, House, TableOf, Idle, Of, Dev, Shut, Opened, Closing, State, loanOf, reaches, isShut, mapLoan, homeFrom, noTable, closing, shut, shutting, loosens, frameOf, loan, any, ownerIs, deviceOf}
 use Rattle.house.specs.Sound.{Tables, View, Held, Good, Sound, viewOf}
-use Rattle.house.proofs.Facts.{withDevs, test-parts, test-both, unlike, change-at, change-off, no-up, no-mid, no-leaf, reached-at}
+use Rattle.house.proofs.Facts.{withDevs, no-up, no-mid, no-leaf, reached-at}
+use Rattle.house.proofs.Shelf.{both, pair, differ, at-one, there}
 use Rattle.house.proofs.Uses.{good-to, leaving-all, leaving-where, use-leaving, pageless, lent}
 
 -- what a shut device leaves: whoever else reached a frame still does, tables of others stay, nothing is lent to it
 others : (d : ℕ) (l : Loan) (a p : ℕ) (w : Bool) → (a ≡ d → ⊥) → T (reaches a p w l) → T (reaches a p w (homeFrom d l))
 unfolding reaches homeFrom
 others d Home a p w n h = h
-others d (Lent e q x) a p w n h = change-at (λ (y : Loan). T (reaches a p w y)) d e Home (Lent e q x) (λ z. absurd (n (reached-at a p w x e q h .0 ∙ sym z))) (λ _. h)
-others d (Leaving e q x) a p w n h = change-at (λ (y : Loan). T (reaches a p w y)) d e Home (Leaving e q x) (λ z. absurd (n (reached-at a p w x e q h .0 ∙ sym z))) (λ _. h)
+others d (Lent e q x) a p w n h = at-one (λ (y : Loan). T (reaches a p w y)) d e Home (Lent e q x) (λ z. absurd (n (reached-at a p w x e q h .0 ∙ sym z))) (λ _. h)
+others d (Leaving e q x) a p w n h = at-one (λ (y : Loan). T (reaches a p w y)) d e Home (Leaving e q x) (λ z. absurd (n (reached-at a p w x e q h .0 ∙ sym z))) (λ _. h)
 
 pub shut-reached : (d : ℕ) (u : Use) (a p : ℕ) (w : Bool) → (a ≡ d → ⊥) → T (reaches a p w (loanOf u)) → T (reaches a p w (loanOf (noTable d (mapLoan (homeFrom d) u))))
 unfolding loanOf noTable mapLoan reaches
@@ -29,22 +30,22 @@ shut-reached d (Of c u l) a p w n h = others d l a p w n h
 
 pub shut-table : (d a : ℕ) (u : Use) → (a ≡ d → ⊥) → u ≡ TableOf a → noTable d (mapLoan (homeFrom d) u) ≡ TableOf a
 unfolding noTable mapLoan
-shut-table d a u n e = rw e (change-off d a Idle (TableOf a) (λ z. n (sym z)))
+shut-table d a u n e = rw e (there d a Idle (TableOf a) (λ z. n (sym z)))
 
 still-lent : (d : ℕ) (l : Loan) (a p : ℕ) (w : Bool) → homeFrom d l ≡ Lent a p w → (l ≡ Lent a p w) × (a ≡ d → ⊥)
 unfolding homeFrom
 still-lent d Home a p w = λ h. absurd (subst lent (sym h) tt)
 still-lent d (Lent e q x) a p w =
-    change-at (λ (y : Loan). y ≡ Lent a p w → (Lent e q x ≡ Lent a p w) × (a ≡ d → ⊥)) d e Home (Lent e q x)
+    at-one (λ (y : Loan). y ≡ Lent a p w → (Lent e q x ≡ Lent a p w) × (a ≡ d → ⊥)) d e Home (Lent e q x)
     (λ _ h. absurd (subst lent (sym h) tt))
     (λ n h. (h, λ z. let k : e ≡ a = cc in n (sym z ∙ sym k)))
 still-lent d (Leaving e q x) a p w =
-    change-at (λ (y : Loan). y ≡ Lent a p w → (Leaving e q x ≡ Lent a p w) × (a ≡ d → ⊥)) d e Home (Leaving e q x) (λ _ h. absurd (subst lent (sym h) tt)) (λ _ h. absurd (subst lent (sym h) tt))
+    at-one (λ (y : Loan). y ≡ Lent a p w → (Leaving e q x ≡ Lent a p w) × (a ≡ d → ⊥)) d e Home (Leaving e q x) (λ _ h. absurd (subst lent (sym h) tt)) (λ _ h. absurd (subst lent (sym h) tt))
 
 pub shut-lent : (d : ℕ) (x : Use) (c u a p : ℕ) (w : Bool) → noTable d (mapLoan (homeFrom d) x) ≡ Of c u (Lent a p w) → (y : ℕ) × (z : ℕ) × (x ≡ Of y z (Lent a p w)) × (a ≡ d → ⊥)
 unfolding noTable mapLoan loanOf
 shut-lent d House c u a p w h = absurd (subst pageless h tt)
-shut-lent d (TableOf e) c u a p w h = absurd (subst pageless h (change-at pageless d e Idle (TableOf e) (λ _. tt) (λ _. tt)))
+shut-lent d (TableOf e) c u a p w h = absurd (subst pageless h (at-one pageless d e Idle (TableOf e) (λ _. tt) (λ _. tt)))
 shut-lent d Idle c u a p w h = absurd (subst pageless h tt)
 shut-lent d (Of y z l) c u a p w h = let r = still-lent d l a p w (ap loanOf h) in (y, z, ap (Of y z) (r .0), r .1)
 
@@ -115,18 +116,18 @@ module _ {t : Tables} {v : View} {mem : ℕ → ℕ → ℕ} {live : Bool} {ups 
       }
     where
       to : (a : ℕ) → (a ≡ d → ⊥) → T (not (isShut (v .dev a))) → T (not (isShut (cond (eqb a d) Shut (v .dev a))))
-      to a n h = change-at (λ (x : Dev). T (not (isShut x))) a d Shut (v .dev a) (λ z. absurd (n z)) (λ _. h)
+      to a n h = at-one (λ (x : Dev). T (not (isShut x))) a d Shut (v .dev a) (λ z. absurd (n z)) (λ _. h)
 
       before : (a : ℕ) → Held (withShut d v) a → Held v a × (a ≡ d → ⊥)
       before a h =
-          let k = change-at (λ (x : Dev). T (not (isShut x)) → T (not (isShut (v .dev a))) × (a ≡ d → ⊥)) a d Shut (v .dev a) (λ _ y. absurd y) (λ n y. (y, n)) (h .1) in
+          let k = at-one (λ (x : Dev). T (not (isShut x)) → T (not (isShut (v .dev a))) × (a ≡ d → ⊥)) a d Shut (v .dev a) (λ _ y. absurd y) (λ n y. (y, n)) (h .1) in
           ((h .0, k .0), k .1)
 
       there : (a i : ℕ) → T (v .slots a i && not (eqb a d)) → T (v .slots a i) × (a ≡ d → ⊥)
-      there a i h = let k = test-parts (v .slots a i) (not (eqb a d)) h in (k .0, unlike a d (k .1))
+      there a i h = let k = both (v .slots a i) (not (eqb a d)) h in (k .0, differ a d (k .1))
 
       here : (a i : ℕ) → (a ≡ d → ⊥) → T (v .slots a i) → T (v .slots a i && not (eqb a d))
-      here a i n h = test-both (v .slots a i) (not (eqb a d)) h (not-T (eqb a d) (λ z. n (eqb→eq a d z)))
+      here a i n h = pair (v .slots a i) (not (eqb a d)) h (not-T (eqb a d) (λ z. n (eqb→eq a d z)))
 
       again : (a p e : ℕ) → (a ≡ d → ⊥) → Good v a p e → Good (withShut d v) a p e
       again a p e n g = good-to (v .devices) (λ f. noTable d (mapLoan (homeFrom d) (v .what f))) (λ e. cond (eqb e d) Shut (v .dev e)) (λ e i. v .slots e i && not (eqb e d)) (λ w. shut-reached d (v .what (frameIn e)) a p w n) g

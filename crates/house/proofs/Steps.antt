@@ -12,9 +12,10 @@ use Rattle.house.specs.Event.{Event, TookFrom, PutInto, Drained}
 use Rattle.house.specs.Machine.{Up, Mid, Leaf, Hw, Step, Steps, Drains, Forgotten, known, counted, withMem, put, frameIn, mayWrite, walked, upper, lower, dropOne}
 use Rattle.house.specs.Meaning.{Loan, Home, Lent, Leaving, Use, House, TableOf, Idle, Of, State, Now, Run, loanOf, isHome, isLent, isShut, reaches, setWord, setDrains, toldDrain}
 use Rattle.house.specs.Sound.{Tables, View, viewOf, Held, Good, Mapped, Sound, SoundAt, Words, Shape, Shaped, Same, Steady, entryOf, isPage}
-use Rattle.house.proofs.Counting.{is-true, both, eq-test, none-any}
+use Rattle.house.proofs.Shelf.{is-true, both, same-number, none-any}
 use Rattle.house.proofs.Known.{all-cons, drop-in, noUp-cons, noUp-drop, noUp-not, noMid-cons, noMid-drop, noMid-not, noLeaf-cons, noLeaf-drop, noLeaf-not}
-use Rattle.house.proofs.Memory.{put-else, words-put, put-keeps}
+use Rattle.house.proofs.Facts.{put-elsewhere}
+use Rattle.house.proofs.Memory.{words-put, put-keeps}
 
 -- WHAT NO STEP CHANGES
 pub same-none : (h : Hw) → Same h h
@@ -123,7 +124,7 @@ walked-lent t v h f d p w s m =
 
 not-missed : (f e : ℕ) (x w : Bool) → T (x || not w) → e ≡ entryOf f x → (e ≡ 0) ⊎ (T w × T (not (mayWrite e))) → ⊥
 not-missed f e true w r q (inl z) = let y : e ≡ suc (suc (2 * f)) = q in omega arith
-not-missed f e true w r q (inr p) = let y : e ≡ suc (suc (2 * f)) = q in T-not (mayWrite e) (p .1) (eq-test ((e - 1) % 2) 1 (omega arith))
+not-missed f e true w r q (inr p) = let y : e ≡ suc (suc (2 * f)) = q in T-not (mayWrite e) (p .1) (same-number ((e - 1) % 2) 1 (omega arith))
 not-missed f e false true r q m = absurd r
 not-missed f e false false r q (inl z) = let y : e ≡ suc (2 * f) = q in omega arith
 not-missed f e false false r q (inr p) = absurd (p .0)
@@ -215,7 +216,7 @@ put-in can start t s n es h d p f k x sound words run a r =
       sound = put-keeps f k x (reached-is-page d p true (s .what f) r) sound;
       words = words-put (viewOf s) (s .word) (h .mem) f k x words;
       same = same-mem (put f k x (h .mem)) h;
-      quiet = λ g j q. (put-else f k x (h .mem) g j (other g q), put-else f k x (s .word) g j (other g q));
+      quiet = λ g j q. (put-elsewhere f k x (h .mem) g j (other g q), put-elsewhere f k x (s .word) g j (other g q));
       forgets = λ d z g. g;
     }
   where

@@ -11,7 +11,8 @@ use Rattle.std.proofs.shelf.Tests.{cases-eq, eq-eqb, ne-eqb, cond-both, cases-b
 use Rattle.house.specs.Machine.{Up, Mid, Leaf, put, frameIn}
 use Rattle.house.specs.Meaning.{Lent, Use, TableOf, Idle, Of, Dev, Opened, loanOf, reaches, isShut, useAt}
 use Rattle.house.specs.Sound.{Tables, View, Held, Good, Sound}
-use Rattle.house.proofs.Facts.{withUses, withDevs, withSlots, test-parts, test-either, failed, change-at, change-here, change-off, put-here, put-elsewhere, put-beside, put-either, table-not-house, table-not-idle, same-table}
+use Rattle.house.proofs.Facts.{withUses, withDevs, withSlots, put-here, put-elsewhere, put-beside, put-either, table-not-house, table-not-idle, same-table}
+use Rattle.house.proofs.Shelf.{both, either, is-false, at-one, here, there}
 use Rattle.house.proofs.Uses.{good-to, mem-change, idle-to-table}
 
 -- tables with one more lower one, with another upper one
@@ -172,11 +173,11 @@ module _ {t : Tables} {v : View} {mem : ℕ → ℕ → ℕ} {live : Bool} {ups 
       again a p e g = good-to (v .devices) (v .what) (v .dev) (λ e j. v .slots e j || (eqb e d && eqb j i)) (λ w h. h) g
 
       split : (a k : ℕ) → T (v .slots a k || (eqb a d && eqb k i)) → T (v .slots a k) ⊎ ((a ≡ d) × (k ≡ i))
-      split a k h = ⊎-elim (λ o. inl o) (λ n. let b = test-parts (eqb a d) (eqb k i) n in inr (eqb→eq a d (b .0), eqb→eq k i (b .1))) (test-either (v .slots a k) (eqb a d && eqb k i) h)
+      split a k h = ⊎-elim (λ o. inl o) (λ n. let b = both (eqb a d) (eqb k i) n in inr (eqb→eq a d (b .0), eqb→eq k i (b .1))) (either (v .slots a k) (eqb a d && eqb k i) h)
 
       other : (a k : ℕ) → T (v .slots a k) → (eqb a d && eqb k i) ≡ false
-      other a k h = failed (eqb a d && eqb k i) (not-T (eqb a d && eqb k i) (λ n.
-          let b = test-parts (eqb a d) (eqb k i) n in
+      other a k h = is-false (eqb a d && eqb k i) (not-T (eqb a d && eqb k i) (λ n.
+          let b = both (eqb a d) (eqb k i) n in
           T-not (v .slots d i) free (subst (λ (x : ℕ). T (v .slots d x)) (eqb→eq k i (b .1)) (subst (λ (x : ℕ). T (v .slots x k)) (eqb→eq a d (b .0)) h))))
 
       old : (a k : ℕ) → T (v .slots a k) → cond (eqb a d && eqb k i) f (t .low a k) ≡ t .low a k
@@ -261,19 +262,19 @@ module _ {t : Tables} {v : View} {mem : ℕ → ℕ → ℕ} {live : Bool} {ups 
       other a h z = T-not (isShut (v .dev d)) (subst (λ (x : ℕ). T (not (isShut (v .dev x)))) z (h .1)) shut
 
       before : (a : ℕ) → (a ≡ d → ⊥) → Held v2 a → Held v a
-      before a z h = (h .0, subst (λ (x : Dev). T (not (isShut x))) (change-off a d (Opened c) (v .dev a) z) (h .1))
+      before a z h = (h .0, subst (λ (x : Dev). T (not (isShut x))) (there a d (Opened c) (v .dev a) z) (h .1))
 
       after : (a : ℕ) → Held v a → Held v2 a
-      after a h = (h .0, change-at (λ (x : Dev). T (not (isShut x))) a d (Opened c) (v .dev a) (λ _. tt) (λ _. h .1))
+      after a h = (h .0, at-one (λ (x : Dev). T (not (isShut x))) a d (Opened c) (v .dev a) (λ _. tt) (λ _. h .1))
 
       top-new : (a : ℕ) → a ≡ d → cond (eqb a d) f (t .top a) ≡ f
       top-new a z = rw (eq-eqb a d z)
 
       top-old : (a : ℕ) → (a ≡ d → ⊥) → cond (eqb a d) f (t .top a) ≡ t .top a
-      top-old a z = change-off a d f (t .top a) z
+      top-old a z = there a d f (t .top a) z
 
       bare : (a i : ℕ) → a ≡ d → v .slots a i ≡ false
-      bare a i z = failed (v .slots a i) (not-T (v .slots a i) (λ h. other a (s .held a i h) z))
+      bare a i z = is-false (v .slots a i) (not-T (v .slots a i) (λ h. other a (s .held a i h) z))
 
       low : (a i j : ℕ) → T (v .slots a i) → mem2 (t .low a i) j ≡ mem (t .low a i) j
       low a i j h = put-elsewhere 0 d (suc f) mem (t .low a i) j (low-not-root a i h)
@@ -285,14 +286,14 @@ pub link : {t : Tables} {v : View} {mem : ℕ → ℕ → ℕ} {live : Bool} {up
 unfolding loanOf reaches
 link {t} {v} {mem} s f d i bound is opened free words =
     link-made (idle-to-table s f d is) f d i bound
-    (change-here f (TableOf d) (v .what f))
+    (here f (TableOf d) (v .what f))
     (λ e h z. table-not-idle (v .what f) e is (ap (v .what) (sym z) ∙ s .top e h .1))
     (λ e j h z. table-not-idle (v .what f) e is (ap (v .what) (sym z) ∙ s .low e j h .1))
     opened free
-    (λ k b. ⊎-elim (λ z. inl z) (λ g. inr (good-to (v .devices) (useAt f (TableOf d) (v .what)) (v .dev) (v .slots) (λ w h. change-at (λ (x : Use). T (reaches d (512 * i + k) w (loanOf x))) (frameIn (mem f k)) f (TableOf d) (v .what (frameIn (mem f k))) (λ z. subst (λ (x : Use). T (reaches d (512 * i + k) w (loanOf x))) (ap (v .what) z ∙ is) h) (λ _. h)) g)) (words k b))
+    (λ k b. ⊎-elim (λ z. inl z) (λ g. inr (good-to (v .devices) (useAt f (TableOf d) (v .what)) (v .dev) (v .slots) (λ w h. at-one (λ (x : Use). T (reaches d (512 * i + k) w (loanOf x))) (frameIn (mem f k)) f (TableOf d) (v .what (frameIn (mem f k))) (λ z. subst (λ (x : Use). T (reaches d (512 * i + k) w (loanOf x))) (ap (v .what) z ∙ is) h) (λ _. h)) g)) (words k b))
 
 -- an idle frame of noughts is linked as the upper table of a device that is opened
 pub open-device : {t : Tables} {v : View} {mem : ℕ → ℕ → ℕ} {live : Bool} {ups : List Up} {mids : List Mid} {leaves flying : List Leaf} → Sound t v mem live ups mids leaves flying →
     (f d c : ℕ) → f < v .frames → v .what f ≡ Idle → ((k : ℕ) → k < 512 → mem f k ≡ 0) → d < v .devices → T (isShut (v .dev d)) →
     Sound (withTop d f t) (withDevs (λ e. cond (eqb e d) (Opened c) (v .dev e)) (withUses (useAt f (TableOf d) (v .what)) v)) (put 0 d (suc f) mem) live ups mids leaves flying
-open-device {v = v} s f d c bound is zeros known shut = open-made (idle-to-table s f d is) f d c bound (change-here f (TableOf d) (v .what f)) zeros known shut
+open-device {v = v} s f d c bound is zeros known shut = open-made (idle-to-table s f d is) f d c bound (here f (TableOf d) (v .what f)) zeros known shut

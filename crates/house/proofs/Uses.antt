@@ -10,7 +10,8 @@ use Rattle.std.proofs.shelf.Tests.{cond-both}
 use Rattle.house.specs.Machine.{Up, Mid, Leaf, frameIn, noLeaf}
 use Rattle.house.specs.Meaning.{Loan, Home, Lent, Leaving, Use, House, TableOf, Idle, Of, Dev, loanOf, reaches, isIdle, useAt, mapLoan, leaving, leavingFrom, notOf}
 use Rattle.house.specs.Sound.{Tables, View, Held, Good, Mapped, Sound, entryOf, isPage}
-use Rattle.house.proofs.Facts.{withUses, test-both, change-at, change-off, entry-frame, entry-writes, entry-some, no-leaf, reached-at, table-not-idle, house-not-idle, passed}
+use Rattle.house.proofs.Facts.{withUses, entry-frame, entry-writes, entry-some, no-leaf, reached-at, table-not-idle, house-not-idle}
+use Rattle.house.proofs.Shelf.{pair, at-one, there, is-true}
 
 -- a good entry of one view is good in another where its frame is reached as it was
 pub good-to : {v : View} {d p e : ℕ} (n : ℕ) (what : ℕ → Use) (dev : ℕ → Dev) (slots : ℕ → ℕ → Bool) →
@@ -19,7 +20,7 @@ pub good-to : {v : View} {d p e : ℕ} (n : ℕ) (what : ℕ → Use) (dev : ℕ
 good-to n what dev slots k g = record { some = g .some; frame = g .frame; reads = k false (g .reads); writes = λ t. k true (g .writes t) }
 
 reached-here : (d p : ℕ) (b : Bool) → T b → T (eqb d d && eqb p p && b)
-reached-here d p b t = test-both (eqb d d && eqb p p) b (test-both (eqb d d) (eqb p p) (eqb-refl d) (eqb-refl p)) t
+reached-here d p b t = pair (eqb d d && eqb p p) b (pair (eqb d d) (eqb p p) (eqb-refl d) (eqb-refl p)) t
 
 always : (w : Bool) → T (w || not false)
 always true = tt
@@ -32,7 +33,7 @@ good-at v g d p w b k =
       some = entry-some g w;
       frame = subst (λ (x : ℕ). x < v .frames) (sym f) b;
       reads = subst (λ (y : ℕ). T (reaches d p false (loanOf (v .what y)))) (sym f) (k false (always w));
-      writes = λ h. subst (λ (y : ℕ). T (reaches d p true (loanOf (v .what y)))) (sym f) (k true (let z : T w = subst T (entry-writes g w) h in rw (passed w z) tt));
+      writes = λ h. subst (λ (y : ℕ). T (reaches d p true (loanOf (v .what y)))) (sym f) (k true (let z : T w = subst T (entry-writes g w) h in rw (is-true w z) tt));
     }
 
 -- the entry of a page that is leaving, or lent, is good where it is
@@ -130,7 +131,7 @@ gone-reached o House home d p w h = h
 gone-reached o (TableOf e) home d p w h = h
 gone-reached o Idle home d p w h = h
 gone-reached o (Of c u l) home d p w h =
-    change-at (λ (y : Use). T (reaches d p w (loanOf y))) o c Idle (Of c u l) (λ z. absurd (subst (λ (y : Loan). T (reaches d p w y)) (home u l (ap (λ (y : ℕ). Of y u l) (sym z))) h)) (λ _. h)
+    at-one (λ (y : Use). T (reaches d p w (loanOf y))) o c Idle (Of c u l) (λ z. absurd (subst (λ (y : Loan). T (reaches d p w y)) (home u l (ap (λ (y : ℕ). Of y u l) (sym z))) h)) (λ _. h)
 
 gone-lent : (o : ℕ) (x : Use) (c u d p : ℕ) (w : Bool) → notOf o x ≡ Of c u (Lent d p w) → (a : ℕ) × (b : ℕ) × (x ≡ Of a b (Lent d p w))
 unfolding notOf
@@ -138,7 +139,7 @@ gone-lent o House c u d p w = λ h. absurd (subst pageless h tt)
 gone-lent o (TableOf e) c u d p w = λ h. absurd (subst pageless h tt)
 gone-lent o Idle c u d p w = λ h. absurd (subst pageless h tt)
 gone-lent o (Of a b l) c u d p w =
-    change-at (λ (y : Use). y ≡ Of c u (Lent d p w) → (m : ℕ) × (n : ℕ) × (Of a b l ≡ Of m n (Lent d p w))) o a Idle (Of a b l) (λ _ h. absurd (subst pageless h tt)) (λ _ h. (c, u, h))
+    at-one (λ (y : Use). y ≡ Of c u (Lent d p w) → (m : ℕ) × (n : ℕ) × (Of a b l ≡ Of m n (Lent d p w))) o a Idle (Of a b l) (λ _ h. absurd (subst pageless h tt)) (λ _ h. (c, u, h))
 
 -- memory changes
 module _ {t : Tables} {v : View} {mem : ℕ → ℕ → ℕ} {live : Bool} {ups : List Up} {mids : List Mid} {leaves flying : List Leaf} (s : Sound t v mem live ups mids leaves flying) where
@@ -241,10 +242,10 @@ module _ {t : Tables} {v : View} {mem : ℕ → ℕ → ℕ} {live : Bool} {ups 
       Sound t (withUses (useAt f new (v .what)) v) mem live ups mids leaves flying
   use-keeps f old new is house tables reach lents =
       uses-keep (useAt f new (v .what))
-      (change-at (λ (x : Use). x ≡ House) 0 f new (v .what 0) (λ e. house (sym is ∙ ap (v .what) (sym e) ∙ s .house)) (λ _. s .house))
-      (λ g d h. change-at (λ (x : Use). x ≡ TableOf d) g f new (v .what g) (λ e. tables d (sym is ∙ ap (v .what) (sym e) ∙ h)) (λ _. h))
-      (λ g d p w _ h. change-at (λ (x : Use). T (reaches d p w (loanOf x))) g f new (v .what g) (λ e. reach d p w (subst (λ (x : Use). T (reaches d p w (loanOf x))) (ap (v .what) e ∙ is) h)) (λ _. h))
-      (λ g c u d p w _. change-at (λ (x : Use). x ≡ Of c u (Lent d p w) → (a : ℕ) × (b : ℕ) × (v .what g ≡ Of a b (Lent d p w))) g f new (v .what g)
+      (at-one (λ (x : Use). x ≡ House) 0 f new (v .what 0) (λ e. house (sym is ∙ ap (v .what) (sym e) ∙ s .house)) (λ _. s .house))
+      (λ g d h. at-one (λ (x : Use). x ≡ TableOf d) g f new (v .what g) (λ e. tables d (sym is ∙ ap (v .what) (sym e) ∙ h)) (λ _. h))
+      (λ g d p w _ h. at-one (λ (x : Use). T (reaches d p w (loanOf x))) g f new (v .what g) (λ e. reach d p w (subst (λ (x : Use). T (reaches d p w (loanOf x))) (ap (v .what) e ∙ is) h)) (λ _. h))
+      (λ g c u d p w _. at-one (λ (x : Use). x ≡ Of c u (Lent d p w) → (a : ℕ) × (b : ℕ) × (v .what g ≡ Of a b (Lent d p w))) g f new (v .what g)
       (λ e h. let r = lents c u d p w h in (r .0, r .1, ap (v .what) e ∙ is ∙ r .2))
       (λ _ h. (c, u, h)))
 
@@ -322,7 +323,7 @@ module _ {t : Tables} {v : View} {mem : ℕ → ℕ → ℕ} {live : Bool} {ups 
       (λ e i j h b k x. still e (512 * i + j) (mem (t .low e i) j) x)
       (λ l h x. still (l .dev) (l .page) (l .entry) x)
       (λ l h x. still (l .dev) (l .page) (l .entry) x)
-      (λ f a b e q x l. change-at (λ (y : Use). y ≡ Of a b (Lent e q x) → Mapped t v mem live f e q x) f g (Of c u (Lent d p w)) (v .what f)
+      (λ f a b e q x l. at-one (λ (y : Use). y ≡ Of a b (Lent e q x) → Mapped t v mem live f e q x) f g (Of c u (Lent d p w)) (v .what f)
       (λ z h. moved f e q x z (ap loanOf h))
       (λ _ h. s .lent f a b e q x l h))
     where
@@ -330,10 +331,10 @@ module _ {t : Tables} {v : View} {mem : ℕ → ℕ → ℕ} {live : Bool} {ups 
       what2 = useAt g (Of c u (Lent d p w)) (v .what)
 
       off : (old : Use) (f : ℕ) → (f ≡ g → ⊥) → v .what f ≡ old → what2 f ≡ old
-      off old f z h = change-off f g (Of c u (Lent d p w)) (v .what f) z ∙ h
+      off old f z h = there f g (Of c u (Lent d p w)) (v .what f) z ∙ h
 
       reach : (f e q : ℕ) (x : Bool) → T (reaches e q x (loanOf (v .what f))) → T (reaches e q x (loanOf (what2 f)))
-      reach f e q x h = change-at (λ (y : Use). T (reaches e q x (loanOf y))) f g (Of c u (Lent d p w)) (v .what f) (λ z. subst (λ (y : Use). T (reaches e q x (loanOf y))) (ap (v .what) z ∙ is) h) (λ _. h)
+      reach f e q x h = at-one (λ (y : Use). T (reaches e q x (loanOf y))) f g (Of c u (Lent d p w)) (v .what f) (λ z. subst (λ (y : Use). T (reaches e q x (loanOf y))) (ap (v .what) z ∙ is) h) (λ _. h)
 
       still : (e q y : ℕ) → Good v e q y → Good (withUses what2 v) e q y
       still e q y k = good-to (v .devices) what2 (v .dev) (v .slots) (λ x. reach (frameIn y) e q x) k
@@ -356,7 +357,7 @@ module _ {t : Tables} {v : View} {mem : ℕ → ℕ → ℕ} {live : Bool} {ups 
       (λ e i j h b k x. still e (512 * i + j) (mem (t .low e i) j) (λ a z. gone e i j k x a z) x)
       (λ l h x. still (l .dev) (l .page) (l .entry) (λ a z. no-leaf d l leaves known h a) x)
       (λ l h x. still (l .dev) (l .page) (l .entry) (λ a z. no-leaf d l flying fly h a) x)
-      (λ f a b e q x l. change-at (λ (y : Use). y ≡ Of a b (Lent e q x) → Mapped t v mem live f e q x) f g (Of c u Home) (v .what f)
+      (λ f a b e q x l. at-one (λ (y : Use). y ≡ Of a b (Lent e q x) → Mapped t v mem live f e q x) f g (Of c u Home) (v .what f)
       (λ z h. absurd (subst lentless h tt))
       (λ _ h. s .lent f a b e q x l h))
     where
@@ -364,10 +365,10 @@ module _ {t : Tables} {v : View} {mem : ℕ → ℕ → ℕ} {live : Bool} {ups 
       what2 = useAt g (Of c u Home) (v .what)
 
       off : (old : Use) (f : ℕ) → (f ≡ g → ⊥) → v .what f ≡ old → what2 f ≡ old
-      off old f z h = change-off f g (Of c u Home) (v .what f) z ∙ h
+      off old f z h = there f g (Of c u Home) (v .what f) z ∙ h
 
       reach : (f e q : ℕ) (x : Bool) → (e ≡ d → p ≡ q → ⊥) → T (reaches e q x (loanOf (v .what f))) → T (reaches e q x (loanOf (what2 f)))
-      reach f e q x n h = change-at (λ (y : Use). T (reaches e q x (loanOf y))) f g (Of c u Home) (v .what f)
+      reach f e q x n h = at-one (λ (y : Use). T (reaches e q x (loanOf y))) f g (Of c u Home) (v .what f)
           (λ z. let r = reached-at e q x w d p (subst (λ (y : Use). T (reaches e q x (loanOf y))) (ap (v .what) z ∙ is) h) in absurd (n (r .0) (sym (r .1))))
           (λ _. h)
 

@@ -15,3 +15,5 @@ pub mod Words
 pub mod Rows
 pub mod Mappings
 pub mod Lends
+pub mod Unmapping
+pub mod Closures

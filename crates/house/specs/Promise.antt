@@ -11,19 +11,11 @@ use Rattle.house.specs.declared.Answer.{Answer}
 use Rattle.house.specs.declared.Answer.the-variants.{Done, Later, No}
 use Rattle.house.specs.Event.{Event, Asked, Told, Loaded, Stored, Faulted, TookFrom, PutInto, Missed, Drained}
 use Rattle.house.specs.Machine.{Hw}
-use Rattle.house.specs.Meaning.{Loan, Home, Lent, Leaving, Use, House, TableOf, Idle, Of, Dev, State, isOf, isAt, isIdle, loanOf, isHome, reaches, openBy, ownerIs, has, frameOf, why, acts, core, atStart, Now, Quiet, Under, Over, Run, Explained}
+use Rattle.house.specs.Meaning.{Loan, Home, Lent, Leaving, Use, House, TableOf, Idle, Of, Dev, State, isOf, isAt, isIdle, loanOf, isHome, reaches, openBy, ownerIs, has, frameOf, why, acts, core, all, atStart, Now, Quiet, Under, Over, Run, Explained}
 
 -- the calls that are built: it only grows
 abbrev pub can : Call → Bool
-can (Get v) = true
-can (Free v) = true
-can (Give v to at) = true
-can (Open d) = true
-can (Close d) = false
-can (Regs d v) = true
-can (Lend v d p w) = true
-can (Recall v) = true
-can (End w) = false
+can = all
 
 -- the core stays built
 abbrev pub CoreBuilt : Type 0

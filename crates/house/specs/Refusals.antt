@@ -2,7 +2,7 @@
 -- Nothing is assumed here.
 use mathlib.Core.Path.{_≡_}
 use mathlib.Core.Logic.{_⊎_}
-use mathlib.Core.Bool.{true}
+use mathlib.Core.Bool.{true, false}
 use Prim.Native.Nat.{ℕ, _<_, _≤_, _/_}
 use Rattle.std.specs.declared.result.Result.{Result}
 use Rattle.std.specs.declared.result.Result.the-variants.{Ok, Err}
@@ -13,7 +13,7 @@ use Rattle.ledger.specs.declared.Place.the-variants as place
 use Rattle.ledger.specs.declared.Device.{Device}
 use Rattle.ledger.specs.declared.Device.the-variants as device
 use Rattle.ledger.specs.View as ledger
-use Rattle.ledger.specs.Uses.{loanIn, heldByOther, isAt}
+use Rattle.ledger.specs.Uses.{loanIn, heldByOther, isAt, ownerIs}
 use Rattle.house.specs.Lends.{Untaken, Lendable}
 use Rattle.house.specs.declared.Answer.{Answer}
 use Rattle.house.specs.declared.Answer.the-variants.{Done, Later, No}
@@ -141,3 +141,27 @@ LendRefused v n m c u d p Held = ⊥
 LendRefused v n m c u d p NoFrame = ((f : ℕ) × Lendable v m c u f d p) × (v .low d (p / 512) ≡ 0) × ((f : ℕ) → f < n → v .used f ≡ used.Idle → ⊥)
 LendRefused v n m c u d p NotPermitted = ⊥
 LendRefused v n m c u d p NotBuilt = ⊥
+
+-- c closes device d; the machine has n devices
+abbrev pub CloseRefused : ledger.View → ℕ → ℕ → ℕ → Refusal → Type 0
+CloseRefused v n c d OutOfRange = n ≤ d
+CloseRefused v n c d NoPage = ⊥
+CloseRefused v n c d Occupied = ⊥
+CloseRefused v n c d WrongLoan = ⊥
+CloseRefused v n c d NotYours = (d < n) × (ownerIs c (v .device d) ≡ false)
+CloseRefused v n c d Held = ⊥
+CloseRefused v n c d NoFrame = ⊥
+CloseRefused v n c d NotPermitted = ⊥
+CloseRefused v n c d NotBuilt = ⊥
+
+-- c ends program p
+abbrev pub EndRefused : ℕ → ℕ → Refusal → Type 0
+EndRefused c p OutOfRange = 32 ≤ p
+EndRefused c p NoPage = ⊥
+EndRefused c p Occupied = ⊥
+EndRefused c p WrongLoan = ⊥
+EndRefused c p NotYours = ⊥
+EndRefused c p Held = ⊥
+EndRefused c p NoFrame = ⊥
+EndRefused c p NotPermitted = (p < 32) × (c ≡ 0 → ⊥)
+EndRefused c p NotBuilt = ⊥

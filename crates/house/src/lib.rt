@@ -7,12 +7,14 @@ ghost use lib.Dec.{T};
 ghost use Rattle.house.specs.Event.{Event, Told};
 ghost use Rattle.house.specs.Machine.{Hw, Frame, Registers, Nothing, AtStart, Steps, Drains, Comes, withMem, counted, put, shows, started};
 ghost use Rattle.house.specs.Meaning.{Explained, Quiet};
-ghost use Rattle.house.specs.Promise.{can, roomOf, startOf, OnePlace, LentByDriver, HomeIsQuiet, NewIsNoughts};
+ghost use Rattle.house.specs.Promise.{can, roomOf, startOf, OnePlace, LentByDriver, HomeIsQuiet, NewIsNoughts, CoreBuilt, AllBuilt};
 ghost use Rattle.house.specs.Refusals.{answerOf, IfRefused, IfNo, NeverNo};
 ghost use Rattle.house.specs.Serving.{Keeps, Begins};
 
+mod closing;
 mod devices;
 mod drains;
+mod ending;
 mod frames;
 mod loans;
 mod operations;
@@ -22,8 +24,10 @@ mod refusals;
 pub mod simulation;
 pub mod theorems;
 
+use closing::close;
 use devices::map_registers;
 use devices::open_device;
+use ending::end;
 use frames::clear;
 use ledger::setup::set_up;
 use loans::Mapping;
@@ -180,7 +184,7 @@ impl Keeper {
         }
     }
 
-    // One row for each call that is built.
+    // One row for each call.
     fn call<M: Machine>(
         &mut self,
         w: &mut M,
@@ -199,7 +203,7 @@ impl Keeper {
             Call::Free { v } => free(w, room, who, v),
             Call::Give { v, to, at } => give(w, room, who, v, to, at),
             Call::Open { d } => open_device(w, room, &mut self.next, who, d),
-            Call::Close { .. } => Err(Refusal::NotBuilt),
+            Call::Close { d } => close(w, room, who, d),
             Call::Regs { d, v } => map_registers(w, room, who, d, v),
             Call::Lend { v, d, p, writes } => {
                 let at = Mapping {
@@ -210,7 +214,7 @@ impl Keeper {
                 lend(w, room, &mut self.next, who, v, at)
             }
             Call::Recall { v } => recall(w, room, who, v),
-            Call::End { .. } => Err(Refusal::NotBuilt),
+            Call::End { who: p } => end(w, room, who, p),
         }
     }
 }
@@ -242,6 +246,20 @@ pub fn keeper_is_small() -> bool
     ensures { λ r. ⌜ T r ⌝ }
 {
     std::mem::size_of::<Keeper>() <= 4096
+}
+
+// The core is built: get, free, open, close, lend, recall.
+pub fn core_built() -> u8
+    ensures { λ _. ⌜ CoreBuilt ⌝ }
+{
+    0
+}
+
+// Every call is built.
+pub fn all_built() -> u8
+    ensures { λ _. ⌜ AllBuilt ⌝ }
+{
+    0
 }
 
 // No two frames are at one place, or at one page of a device.

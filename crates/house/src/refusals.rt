@@ -1,7 +1,7 @@
 // Why a call is refused: the reasons, their numbers, and the tests that several calls share.
 ghost use mathlib.Core.Path.{_≡_};
-ghost use mathlib.Core.Bool.{true};
-ghost use Prim.Native.Nat.{ℕ, _+_, _*_, _<_, _≤_};
+ghost use mathlib.Core.Bool.{true, false};
+ghost use Prim.Native.Nat.{ℕ, _<_, _≤_};
 ghost use lib.ListN.{length};
 ghost use Rattle.std.specs.Results.{Cases};
 ghost use Rattle.ledger.specs.Room.{placeOf, deviceOf};
@@ -10,7 +10,7 @@ ghost use Rattle.ledger.specs.declared.Device.the-variants.{Shut, Opened};
 ghost use Rattle.ledger.specs.declared.Loan.the-variants.{Home};
 ghost use Rattle.ledger.specs.declared.Use.the-variants.{PageOf};
 ghost use Rattle.ledger.specs.View.{viewOf};
-ghost use Rattle.ledger.specs.Uses.{loanIn, isAt};
+ghost use Rattle.ledger.specs.Uses.{loanIn, isAt, ownerIs};
 ghost use Rattle.ledger.specs.Consistent.{Consistent};
 ghost use Rattle.house.specs.Lends.{Untaken};
 ghost use Rattle.house.specs.Refusals.{numberOf};
@@ -156,5 +156,40 @@ pub fn program(c: u32) -> Result<(), Refusal>
         Ok(())
     } else {
         Err(Refusal::OutOfRange)
+    }
+}
+
+// Whether `who` has the device, open or closing.
+pub fn has_device(room: &[u64], who: u32, d: u32) -> bool
+    requires { ⌜ 65536 ≤ length (now room) ⌝ ∗ ⌜ d < 32 ⌝ }
+    ensures { λ r. ⌜ r ≡ ownerIs who (deviceOf (now (room .entry)) d) ⌝ }
+{
+    match device_at(room, d) {
+        Device::Shut => false,
+        Device::Opened(by) => who == by,
+        Device::Closing(by) => who == by,
+    }
+}
+
+// `who` has the device, open or closing.
+pub fn held(room: &[u64], who: u32, d: u32) -> Result<(), Refusal>
+    requires { ⌜ 65536 ≤ length (now room) ⌝ ∗ ⌜ d < 32 ⌝ }
+    ensures { λ r. ⌜ Cases r (λ _. ownerIs who (deviceOf (now (room .entry)) d) ≡ true) (λ e. (e ≡ Refusal.NotYours) × (ownerIs who (deviceOf (now (room .entry)) d) ≡ false)) ⌝ }
+{
+    if has_device(room, who, d) {
+        Ok(())
+    } else {
+        Err(Refusal::NotYours)
+    }
+}
+
+// Program 0 may end programs, and no other.
+pub fn may_end(who: u32) -> Result<(), Refusal>
+    ensures { λ r. ⌜ Cases r (λ _. who ≡ 0) (λ e. (e ≡ Refusal.NotPermitted) × (who ≡ 0 → ⊥)) ⌝ }
+{
+    if who == 0 {
+        Ok(())
+    } else {
+        Err(Refusal::NotPermitted)
     }
 }

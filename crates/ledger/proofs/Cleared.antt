@@ -3,21 +3,21 @@ use mathlib.Core.Path.{_≡_, refl, sym, _∙_, ap, fun-ext, subst}
 use mathlib.Core.Bool.{Bool, true, false, cond, _&&_}
 use mathlib.Core.Logic.{_⊎_, inl, inr, ⊎-elim}
 use mathlib.Core.List.{List}
-use Prim.Native.Nat.{ℕ, suc, _+_, _-_, _*_, _/_, _%_, _<_, _≤_}
+use Prim.Native.Nat.{ℕ, _+_, _-_, _*_, _<_, _≤_}
 use native.Mathlib.Omega.{arith}
-use lib.Dec.{eqb, ltb, leb}
+use lib.Dec.{eqb, ltb}
 use lib.ListN.{getD, set, length}
 use Rattle.std.proofs.shelf.Lists.{getD-set-same, getD-set-other}
-use Rattle.std.proofs.shelf.Tests.{ltb-true, lt-ltb, eqb-true, eqb-false, eq-eqb, ne-eqb, cases-eq, cases-bool, cases-lt, cond-both, and-parts, le-ltb, false≢true}
+use Rattle.std.proofs.shelf.Tests.{ltb-true, lt-ltb, eqb-true, eq-eqb, ne-eqb, cases-eq, cases-lt, cond-both, and-parts, le-ltb, false≢true}
 use Rattle.ledger.specs.declared.Use.{Use}
-use Rattle.ledger.specs.declared.Use.the-variants.{House, TableOf, Idle, PageOf}
+use Rattle.ledger.specs.declared.Use.the-variants.{House, Idle}
 use Rattle.ledger.specs.declared.Place.the-variants.{Nothing}
 use Rattle.ledger.specs.declared.Device.the-variants.{Shut}
 use Rattle.ledger.specs.Words.{useFrom, placeFrom, deviceFrom, numberFrom}
 use Rattle.ledger.specs.Room.{useOf, placeOf, deviceOf, topOf, lowOf}
-use Rattle.ledger.specs.View.{View, viewOf}
+use Rattle.ledger.specs.View.{viewOf}
 use Rattle.ledger.specs.Uses.{isAt, loanIn}
-use Rattle.ledger.specs.Consistent.{FrameOk, Coherent, Consistent}
+use Rattle.ledger.specs.Consistent.{FrameOk, Coherent}
 use Rattle.ledger.specs.Changes.{empty}
 use Rattle.ledger.proofs.Entries.{record-at, record-kept, same-view}
 
@@ -42,9 +42,9 @@ first-low f lo e = go (eqb f 0) e
     go true e = rw e
     go false e = rw e
 
-pub cleared-frame : (r s : List ℕ) (f lo : ℕ) → 65537 + 2 * f < length s → lo ≡ cond (eqb f 0) 0 2 → Cleared r s f →
+cleared-record : (r s : List ℕ) (f lo : ℕ) → 65537 + 2 * f < length s → lo ≡ cond (eqb f 0) 0 2 → Cleared r s f →
     Cleared r (set (set s (65536 + 2 * f) lo) (65536 + 2 * f + 1) 0) (f + 1)
-cleared-frame r s f lo l e h = (
+cleared-record r s f lo l e h = (
   λ g b. record-at s f lo 0 l g ∙ ⊎-elim (λ q. rw (eq-eqb g f q, q) (first-low f lo e)) (λ ne. rw (ne-eqb g f ne) (h .0 g (omega arith))) (cases-eq g f),
   λ k b. record-kept s f lo 0 l k (away k b .0) (away k b .1) ∙ h .1 k (still k b),
 )
@@ -56,6 +56,9 @@ cleared-frame r s f lo l e h = (
     still : (k : ℕ) → (k < 65536) ⊎ (65536 + 2 * (f + 1) ≤ k) → (k < 65536) ⊎ (65536 + 2 * f ≤ k)
     still k (inl b) = inl b
     still k (inr b) = inr (omega arith)
+
+pub cleared-frame : (r s : List ℕ) (f at lo : ℕ) → at ≡ 65536 + 2 * f → 65537 + 2 * f < length s → lo ≡ cond (eqb f 0) 0 2 → Cleared r s f → Cleared r (set (set s at lo) (at + 1) 0) (f + 1)
+cleared-frame r s f at lo is l e h = subst (λ (k : ℕ). Cleared r (set (set s k lo) (k + 1) 0) (f + 1)) (sym is) (cleared-record r s f lo l e h)
 
 always : {A : Type 0} (b : Bool) (x z : A) → (b ≡ true → x ≡ z) → cond b x z ≡ z
 always true x z h = h refl

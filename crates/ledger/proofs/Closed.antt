@@ -3,29 +3,26 @@ use mathlib.Core.Path.{_≡_, refl, sym, _∙_, ap, fun-ext, subst}
 use mathlib.Core.Bool.{Bool, true, false, cond, _&&_}
 use mathlib.Core.Logic.{_⊎_, inl, inr, ⊎-elim}
 use mathlib.Core.List.{List}
-use Prim.Native.Nat.{ℕ, suc, _+_, _-_, _*_, _/_, _<_, _≤_}
+use Prim.Native.Nat.{ℕ, suc, _+_, _-_, _<_, _≤_}
 use native.Mathlib.Omega.{arith}
 use lib.Dec.{eqb, ltb}
 use lib.ListN.{length}
-use Rattle.std.proofs.shelf.Tests.{eqb-true, eqb-false, eq-eqb, ne-eqb, lt-ltb, le-ltb, ltb-true, ltb-false, cases-eq, cases-lt, cases-bool, cond-both, and-parts, and-from, false≢true}
-use Rattle.ledger.specs.declared.Loan.{Loan}
+use Rattle.std.proofs.shelf.Tests.{eq-eqb, ne-eqb, lt-ltb, le-ltb, ltb-true, cases-eq, cases-lt, cond-both, and-parts}
 use Rattle.ledger.specs.declared.Loan.the-variants.{Home, Lent, Leaving}
 use Rattle.ledger.specs.declared.Which.{Which}
 use Rattle.ledger.specs.declared.Which.the-variants.{Upper, Lower}
 use Rattle.ledger.specs.declared.Use.{Use}
 use Rattle.ledger.specs.declared.Use.the-variants.{House, TableOf, Idle, PageOf}
-use Rattle.ledger.specs.declared.Place.{Place}
-use Rattle.ledger.specs.declared.Place.the-variants.{Nothing, Page, Registers}
-use Rattle.ledger.specs.declared.Device.{Device}
-use Rattle.ledger.specs.declared.Device.the-variants.{Shut, Opened, Closing}
-use Rattle.ledger.specs.Room.{useOf, placeOf, deviceOf, topOf, lowOf}
+use Rattle.ledger.specs.declared.Place.the-variants.{Registers}
+use Rattle.ledger.specs.declared.Device.the-variants.{Shut, Closing}
+use Rattle.ledger.specs.Room.{placeOf, deviceOf, topOf, lowOf}
 use Rattle.ledger.specs.View.{View, viewOf, withUse, withLow, withTop, withDevice}
 use Rattle.ledger.specs.Uses.{isWith, isLent, isShut, loanIn, ownerIs, leavingFrom, homeFrom, mapLoan, noLower, noLowers, noTable}
 use Rattle.ledger.specs.Changes.{withUses, closingFor, shutDevice, withoutLower, withoutLowers}
 use Rattle.ledger.specs.Consistent.{FrameOk, Coherent, Consistent}
 use Rattle.ledger.proofs.Entries.{same-view}
-use Rattle.ledger.proofs.Moves.{at1, at2, same1, other1, same2, not-shut}
-use Rattle.ledger.proofs.Laws.{used-at, within, low-within, changed}
+use Rattle.ledger.proofs.Moves.{at1, at2, same1, same2, not-shut}
+use Rattle.ledger.proofs.Laws.{within, low-within, changed}
 use Rattle.ledger.proofs.Coherence.{upper, closing-coherent, dropped-coherent, shut-coherent}
 use Rattle.ledger.proofs.Operations.{Made}
 
@@ -67,12 +64,6 @@ other-lower d i (PageOf c v l) h = refl
 module _ (n : ℕ) (r : List ℕ) (d i : ℕ) (K : Consistent n r) where
   lower-frame : (g : ℕ) → viewOf n r .used g ≡ TableOf d (Lower i) → lowOf r d i ≡ suc g
   lower-frame g e = subst (FrameOk (placeOf r) (deviceOf r) (topOf r) (lowOf r) g) e (K .coherent .frames g)
-
-  -- a slot that has no lower table
-  pub dropped-none : lowOf r d i ≡ 0 → viewOf n r ≡ withoutLower d i (viewOf n r)
-  dropped-none e =
-      same-view (viewOf n r) (withoutLower d i (viewOf n r)) (fun-ext (λ g. other-lower d i (viewOf n r .used g) (λ q. let h = lower-frame g q in omega arith))) refl refl refl
-      (fun-ext (λ a. fun-ext (λ b. at2 (λ z. lowOf r a b ≡ z) a d b i 0 (lowOf r a b) (λ p q. rw (p, q) e) (λ _. refl))))
 
   pub lower-within : (x : ℕ) → x ≡ lowOf r d i → 0 < x → x - 1 < n
   lower-within x e l = within n r (x - 1) (λ q. clash (sym q ∙ K .coherent .lows d i (x - 1) (sym e ∙ omega arith)))

@@ -1,11 +1,10 @@
 -- Each change of a coherent view that the operations make leaves it coherent.
 use mathlib.Core.Path.{_≡_, refl, sym, _∙_, ap, subst}
 use mathlib.Core.Bool.{Bool, true, false, cond, _&&_}
-use mathlib.Core.Logic.{_⊎_, inl, inr, ⊎-elim}
-use Prim.Native.Nat.{ℕ, suc, _+_, _*_, _/_, _<_, _≤_}
+use Prim.Native.Nat.{ℕ, suc, _/_}
 use native.Mathlib.Omega.{arith}
 use lib.Dec.{eqb}
-use Rattle.std.proofs.shelf.Tests.{eqb-true, eqb-false, eq-eqb, ne-eqb, cases-eq, cond-both, and-parts, false≢true}
+use Rattle.std.proofs.shelf.Tests.{eqb-true, eqb-false, eq-eqb, and-parts, false≢true}
 use Rattle.ledger.specs.declared.Loan.{Loan}
 use Rattle.ledger.specs.declared.Loan.the-variants.{Home, Lent, Leaving}
 use Rattle.ledger.specs.declared.Which.{Which}
@@ -20,7 +19,7 @@ use Rattle.ledger.specs.Uses.{isPage, loanIn, isAt, isWith, isLent, isShut, ow
 use Rattle.ledger.specs.View.{View, withUse, withPlace, withDevice, withTop, withLow}
 use Rattle.ledger.specs.Changes.{newPage, freedPage, withLoan, openedBy, lowerAt}
 use Rattle.ledger.specs.Consistent.{LoanOk, FrameOk, PlaceOk, DeviceOk, Coherent}
-use Rattle.ledger.proofs.Moves.{at1, at2, same1, other1, same2, other2, is-page, page-is, owner-is, not-shut, loan-moves, frame-moves, place-moves, device-moves, once-moves}
+use Rattle.ledger.proofs.Moves.{at1, at2, same1, other1, same2, is-page, page-is, not-shut, loan-moves, frame-moves, place-moves, device-moves, once-moves}
 
 -- One frame's use is changed, to one that is lent to nobody: nothing that refers to other frames is touched.
 module _ (s : View) (K : Coherent s) (f : ℕ) (x : Use) where
@@ -57,9 +56,6 @@ page-table e = let z : _≡_ {A = ℕ} 0 1 = cc in omega arith
 
 nothing-page : {f : ℕ} → Nothing ≡ Page f → ⊥
 nothing-page e = let z : _≡_ {A = ℕ} 0 1 = cc in omega arith
-
-registers-page : {d f : ℕ} → Registers d ≡ Page f → ⊥
-registers-page e = let z : _≡_ {A = ℕ} 0 1 = cc in omega arith
 
 shut-opened : {c : ℕ} → Shut ≡ Opened c → ⊥
 shut-opened e = let z : _≡_ {A = ℕ} 0 1 = cc in omega arith

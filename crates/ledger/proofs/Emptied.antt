@@ -1,22 +1,20 @@
 -- A loop over the 1,024 places of a program that hides a device's registers, or vacates them: its start, its step and its end.
 use mathlib.Core.Path.{_≡_, refl, sym, _∙_, ap, fun-ext, subst}
 use mathlib.Core.Bool.{Bool, true, false, cond, _&&_}
-use mathlib.Core.Logic.{_⊎_, inl, inr, ⊎-elim}
+use mathlib.Core.Logic.{_⊎_, ⊎-elim}
 use mathlib.Core.List.{List}
-use Prim.Native.Nat.{ℕ, _+_, _<_, _≤_}
+use Prim.Native.Nat.{ℕ, _+_, _≤_}
 use native.Mathlib.Omega.{arith}
 use lib.Dec.{eqb, ltb}
-use Rattle.std.proofs.shelf.Tests.{eq-eqb, ne-eqb, eqb-true, lt-ltb, le-ltb, ltb-true, cases-eq, cases-lt, cases-bool, cond-both, and-parts, and-from, false≢true}
+use Rattle.std.proofs.shelf.Tests.{eq-eqb, ne-eqb, eqb-true, lt-ltb, le-ltb, cases-eq, cases-lt, cond-both, and-from, false≢true}
 use Rattle.ledger.specs.declared.Loan.{Loan}
 use Rattle.ledger.specs.declared.Use.{Use}
 use Rattle.ledger.specs.declared.Use.the-variants.{House, TableOf, Idle, PageOf}
 use Rattle.ledger.specs.declared.Place.{Place}
 use Rattle.ledger.specs.declared.Place.the-variants.{Nothing, Page, Registers}
-use Rattle.ledger.specs.declared.Device.{Device}
-use Rattle.ledger.specs.declared.Device.the-variants.{Opened}
-use Rattle.ledger.specs.Room.{useOf, placeOf, deviceOf}
+use Rattle.ledger.specs.Room.{placeOf, deviceOf}
 use Rattle.ledger.specs.View.{View, viewOf}
-use Rattle.ledger.specs.Uses.{ownerIs, noPage, notOf, notBelow, noRegisters, showsRegisters}
+use Rattle.ledger.specs.Uses.{ownerIs, noPage, notOf, notBelow, noRegisters}
 use Rattle.ledger.specs.Changes.{unregistered, withoutRegisters, hiddenBelow, vacated, ended, endedBelow}
 use Rattle.ledger.specs.Consistent.{PlaceOk, Consistent}
 use Rattle.ledger.proofs.Entries.{same-view}

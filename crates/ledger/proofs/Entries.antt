@@ -1,14 +1,14 @@
 -- A write of one entry: what the room says after it, of that entry and of all others.
-use mathlib.Core.Path.{_≡_, refl, sym, _∙_, ap, fun-ext}
+use mathlib.Core.Path.{_≡_, refl, _∙_, ap, fun-ext}
 use mathlib.Core.Bool.{Bool, true, false, cond, _&&_}
 use mathlib.Core.Logic.{_⊎_, inl, inr, ⊎-elim, _≢_}
 use mathlib.Core.List.{List}
-use Prim.Native.Nat.{ℕ, _+_, _-_, _*_, _/_, _%_, _<_, _≤_}
+use Prim.Native.Nat.{ℕ, _+_, _-_, _*_, _<_, _≤_}
 use native.Mathlib.Omega.{arith}
-use lib.Dec.{eqb, ltb, leb}
+use lib.Dec.{eqb, ltb}
 use lib.ListN.{getD, set, length}
 use Rattle.std.proofs.shelf.Lists.{getD-set-same, getD-set-other, length-set}
-use Rattle.std.proofs.shelf.Tests.{ltb-true, lt-ltb, eqb-true, eqb-false, eq-eqb, ne-eqb, cases-eq, cases-bool, and-parts}
+use Rattle.std.proofs.shelf.Tests.{ltb-true, lt-ltb, eq-eqb, ne-eqb, cases-eq, and-parts}
 use Rattle.ledger.specs.declared.Use.{Use}
 use Rattle.ledger.specs.declared.Use.the-variants.{Idle}
 use Rattle.ledger.specs.declared.Place.{Place}
@@ -50,11 +50,6 @@ same-uses r s h f = let a = h (65536 + 2 * f) (omega arith) in let b = h (65536 
 -- a view is its five tables
 pub same-view : (a b : View) → a .used ≡ b .used → a .place ≡ b .place → a .device ≡ b .device → a .top ≡ b .top → a .low ≡ b .low → a ≡ b
 same-view a b u p d t l = λ i. record { used = u i; place = p i; device = d i; top = t i; low = l i }
-
--- what stands at a word after one is written
-pub written : (r : List ℕ) (i x j : ℕ) → i < length r → getD (set r i x) j 0 ≡ cond (eqb j i) x (getD r j 0)
-written r i x j h =
-    ⊎-elim (λ e. rw (eq-eqb j i e, e) (getD-set-same r i x 0 h)) (λ ne. rw (ne-eqb j i ne) (getD-set-other r i j x 0 ne)) (cases-eq j i)
 
 module _ (r : List ℕ) (f lo hi : ℕ) (fits : 65537 + 2 * f < length r) where
   abbrev after : List ℕ
@@ -181,3 +176,37 @@ module _ (r : List ℕ) (n x : ℕ) (long : 65536 ≤ length r) where
       here : (a : ℕ) → (a ≡ d) ⊎ (a ≡ d → ⊥) → topOf (set r (49152 + 2 * d + 1) x) a ≡ cond (eqb a d) y (topOf r a)
       here a (inl q) = rw (eq-eqb a d q, q, lt-ltb d 32 hd, getD-set-same r (49152 + 2 * d + 1) x 0 (omega arith)) e
       here a (inr q) = rw (ne-eqb a d q) (guarded (ltb a 32) _ _ _ (λ t. ap numberFrom (kept r _ x n (49152 + 2 * a + 1) (λ z. q (omega arith)))))
+
+-- The same where a word's number is given by an equation, as `layout` gives it.
+module _ (r : List ℕ) (at : ℕ) where
+  pub read-place-at : (c v : ℕ) → at ≡ c * 1024 + v → c < 32 → v < 1024 → placeFrom (getD r at 0) ≡ placeOf r c v
+  read-place-at c v e a b = ap (λ (k : ℕ). placeFrom (getD r k 0)) e ∙ read-place r c v a b
+
+  pub read-device-at : (d : ℕ) → at ≡ 49152 + 2 * d → d < 32 → deviceFrom (getD r at 0) ≡ deviceOf r d
+  read-device-at d e a = ap (λ (k : ℕ). deviceFrom (getD r k 0)) e ∙ read-device r d a
+
+  pub read-top-at : (d : ℕ) → at ≡ 49152 + 2 * d → d < 32 → numberFrom (getD r (at + 1) 0) ≡ topOf r d
+  read-top-at d e a = ap (λ (k : ℕ). numberFrom (getD r (k + 1) 0)) e ∙ read-top r d a
+
+  pub read-low-at : (d i : ℕ) → at ≡ 32768 + d * 512 + i → d < 32 → i < 512 → numberFrom (getD r at 0) ≡ lowOf r d i
+  read-low-at d i e a b = ap (λ (k : ℕ). numberFrom (getD r k 0)) e ∙ read-low r d i a b
+
+  pub read-use-at : (f : ℕ) → at ≡ 65536 + 2 * f → useFrom (getD r at 0) (getD r (at + 1) 0) ≡ useOf r f
+  unfolding useOf
+  read-use-at f e = ap (λ (k : ℕ). useFrom (getD r k 0) (getD r (k + 1) 0)) e
+
+  pub wrote-use-at : (f lo hi n : ℕ) (u : Use) → at ≡ 65536 + 2 * f → 65537 + 2 * f < length r → f < n → useFrom lo hi ≡ u → viewOf n (set (set r at lo) (at + 1) hi) ≡ withUse f u (viewOf n r)
+  wrote-use-at f lo hi n u e fits l w = ap (λ (k : ℕ). viewOf n (set (set r k lo) (k + 1) hi)) e ∙ wrote-use r f lo hi fits n u l w
+
+  module _ (n x : ℕ) (long : 65536 ≤ length r) where
+    pub wrote-place-at : (c v : ℕ) (p : Place) → at ≡ c * 1024 + v → c < 32 → v < 1024 → placeFrom x ≡ p → viewOf n (set r at x) ≡ withPlace c v p (viewOf n r)
+    wrote-place-at c v p e a b w = ap (λ (k : ℕ). viewOf n (set r k x)) e ∙ wrote-place r n x long c v p a b w
+
+    pub wrote-low-at : (d i y : ℕ) → at ≡ 32768 + d * 512 + i → d < 32 → i < 512 → numberFrom x ≡ y → viewOf n (set r at x) ≡ withLow d i y (viewOf n r)
+    wrote-low-at d i y e a b w = ap (λ (k : ℕ). viewOf n (set r k x)) e ∙ wrote-low r n x long d i y a b w
+
+    pub wrote-device-at : (d : ℕ) (y : Device) → at ≡ 49152 + 2 * d → d < 32 → deviceFrom x ≡ y → viewOf n (set r at x) ≡ withDevice d y (viewOf n r)
+    wrote-device-at d y e a w = ap (λ (k : ℕ). viewOf n (set r k x)) e ∙ wrote-device r n x long d y a w
+
+    pub wrote-top-at : (d y : ℕ) → at ≡ 49152 + 2 * d → d < 32 → numberFrom x ≡ y → viewOf n (set r (at + 1) x) ≡ withTop d y (viewOf n r)
+    wrote-top-at d y e a w = ap (λ (k : ℕ). viewOf n (set r (k + 1) x)) e ∙ wrote-top r n x long d y a w

@@ -1,26 +1,23 @@
 -- What holds of every room, and of every consistent one.
-use mathlib.Core.Path.{_≡_, refl, sym, _∙_, ap, subst}
-use mathlib.Core.Bool.{Bool, true, false, cond, _&&_}
-use mathlib.Core.Logic.{_⊎_, inl, inr, ⊎-elim}
+use mathlib.Core.Path.{_≡_, sym, _∙_, ap, subst}
+use mathlib.Core.Bool.{false, _&&_}
+use mathlib.Core.Logic.{_⊎_, ⊎-elim}
 use mathlib.Core.List.{List}
-use Prim.Native.Nat.{ℕ, suc, _+_, _-_, _*_, _/_, _%_, _<_, _≤_}
+use Prim.Native.Nat.{ℕ, suc, _+_, _-_, _*_, _/_, _%_, _<_}
 use native.Mathlib.Omega.{arith}
 use lib.Dec.{eqb, ltb}
 use lib.ListN.{getD, length}
-use Rattle.std.proofs.shelf.Tests.{lt-ltb, le-ltb, ltb-true, cases-lt, cases-bool, and-parts, false≢true, cond-both}
+use Rattle.std.proofs.shelf.Tests.{lt-ltb, le-ltb, ltb-true, cases-lt, cases-bool, and-parts, cond-both}
 use Rattle.ledger.specs.declared.Loan.{Loan}
 use Rattle.ledger.specs.declared.Loan.the-variants.{Home, Lent, Leaving}
 use Rattle.ledger.specs.declared.Which.the-variants.{Upper, Lower}
-use Rattle.ledger.specs.declared.Use.{Use}
 use Rattle.ledger.specs.declared.Use.the-variants.{House, TableOf, Idle, PageOf}
-use Rattle.ledger.specs.declared.Place.{Place}
 use Rattle.ledger.specs.declared.Place.the-variants.{Nothing, Page, Registers}
-use Rattle.ledger.specs.declared.Device.{Device}
 use Rattle.ledger.specs.declared.Device.the-variants.{Shut, Opened, Closing}
 use Rattle.ledger.specs.Words.{UseFits, LoanFits, WhichFits, DeviceFits, useFrom, loanFrom, whichFrom, deviceFrom, isSet}
-use Rattle.ledger.specs.Room.{useOf, placeOf, deviceOf, topOf, lowOf}
+use Rattle.ledger.specs.Room.{useOf, placeOf, deviceOf, lowOf}
 use Rattle.ledger.specs.View.{View, viewOf}
-use Rattle.ledger.specs.Uses.{isPage, isShut}
+use Rattle.ledger.specs.Uses.{isShut}
 use Rattle.ledger.specs.Consistent.{LoanOk, FrameOk, PlaceOk, Coherent, Consistent}
 use Rattle.ledger.proofs.Moves.{is-page}
 

@@ -2,7 +2,7 @@
 use mathlib.Core.Path.{_≡_, refl, sym, _∙_, ap, subst}
 use mathlib.Core.Bool.{Bool, true, false}
 use mathlib.Core.List.{List}
-use Prim.Native.Nat.{ℕ, _/_, _<_}
+use Prim.Native.Nat.{ℕ, _<_}
 use native.Mathlib.Omega.{arith}
 use lib.Dec.{eqb}
 use Rattle.std.proofs.shelf.Tests.{eq-eqb, eqb-true, and-parts, false≢true}
@@ -64,6 +64,3 @@ module _ (n : ℕ) (r : List ℕ) (K : Consistent n r) (c v f : ℕ) (h : Bool) 
   recalled-alone g d p l a b =
       K .coherent .once g f d p (ap (λ (u : Use). isAt d p (loanIn u)) (used-at n r g l) ∙ b)
       (ap (λ (u : Use). isAt d p (loanIn u)) (used-at n r f (page-at n r K c v f shown .0)) ∙ recalled-at h (loanIn (useOf r f)) d p (ap (isAt d p) (sym ax) ∙ a))
-
-  pub recalled-frame : f < n
-  recalled-frame = page-at n r K c v f shown .0

@@ -2,10 +2,9 @@
 use mathlib.Core.Path.{_≡_, refl, sym, _∙_, ap}
 use mathlib.Core.Bool.{Bool, true, false, cond, _&&_}
 use mathlib.Core.Logic.{_⊎_, inl, inr}
-use Prim.Native.Nat.{ℕ, suc, _+_, _*_, _/_, _<_, _≤_}
-use native.Mathlib.Omega.{arith}
+use Prim.Native.Nat.{ℕ, suc, _/_}
 use lib.Dec.{eqb}
-use Rattle.std.proofs.shelf.Tests.{eqb-true, eqb-false, eq-eqb, ne-eqb, cases-eq, cond-both, and-parts, false≢true}
+use Rattle.std.proofs.shelf.Tests.{eqb-true, eqb-false, eq-eqb, ne-eqb, cond-both, and-parts, false≢true}
 use Rattle.ledger.specs.declared.Loan.{Loan}
 use Rattle.ledger.specs.declared.Loan.the-variants.{Home, Lent, Leaving}
 use Rattle.ledger.specs.declared.Which.the-variants.{Upper, Lower}
@@ -38,10 +37,6 @@ same2 c v x y = rw (eq-eqb c c refl, eq-eqb v v refl)
 
 pub other2 : {A : Type 0} (a c b v : ℕ) (x y : A) → ((a ≡ c) × (b ≡ v) → ⊥) → cond (eqb a c && eqb b v) x y ≡ y
 other2 a c b v x y ne = at2 (λ z. z ≡ y) a c b v x y (λ p q. absurd (ne (p, q))) (λ _. refl)
-
--- a test that is true at one number only
-pub apart : {A : Type 0} (t : A → Bool) (m : ℕ → A) (x : A) (g f : ℕ) → m f ≡ x → t x ≡ false → t (m g) ≡ true → g ≡ f → ⊥
-apart t m x g f e n h q = false≢true (sym n ∙ ap t (sym e) ∙ ap (λ (k : ℕ). t (m k)) (sym q) ∙ h)
 
 pub is-page : (c v : ℕ) (u : Use) → isPage c v u ≡ true → (l : Loan) × (u ≡ PageOf c v l)
 is-page c v House e = absurd (false≢true e)

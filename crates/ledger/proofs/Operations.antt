@@ -1,29 +1,30 @@
 -- What the operations of several writes make of a consistent room: its view, and that it is consistent.
-use mathlib.Core.Path.{_≡_, refl, sym, _∙_, ap, fun-ext}
-use mathlib.Core.Bool.{Bool, true, false, cond, _&&_}
+use mathlib.Core.Path.{_≡_, refl, sym, _∙_, ap, fun-ext, subst}
+use mathlib.Core.Logic.{inl, inr}
+use mathlib.Core.Bool.{true, false, cond, _&&_}
 use mathlib.Core.List.{List}
-use Prim.Native.Nat.{ℕ, suc, _+_, _*_, _/_, _<_, _≤_}
+use Prim.Native.Nat.{ℕ, suc, _+_, _<_}
 use native.Mathlib.Omega.{arith}
-use lib.Dec.{eqb, ltb}
+use lib.Dec.{eqb}
 use lib.ListN.{length}
 use native.Mathlib.Numerals.{add-one}
 use Rattle.std.proofs.shelf.Tests.{false≢true, cond-both}
 use Rattle.ledger.specs.declared.Loan.{Loan}
-use Rattle.ledger.specs.declared.Loan.the-variants.{Home, Lent, Leaving}
+use Rattle.ledger.specs.declared.Loan.the-variants.{Home}
 use Rattle.ledger.specs.declared.Which.the-variants.{Upper, Lower}
 use Rattle.ledger.specs.declared.Use.{Use}
 use Rattle.ledger.specs.declared.Use.the-variants.{House, TableOf, Idle, PageOf}
 use Rattle.ledger.specs.declared.Place.{Place}
 use Rattle.ledger.specs.declared.Place.the-variants.{Nothing, Page, Registers}
-use Rattle.ledger.specs.declared.Device.{Device}
-use Rattle.ledger.specs.declared.Device.the-variants.{Shut, Opened, Closing}
-use Rattle.ledger.specs.Room.{useOf, placeOf, deviceOf, topOf, lowOf}
+use Rattle.ledger.specs.declared.Device.the-variants.{Shut, Opened}
+use Rattle.ledger.specs.Room.{useOf, placeOf, deviceOf, lowOf}
 use Rattle.ledger.specs.View.{View, viewOf, withUse, withPlace, withDevice, withTop, withLow}
 use Rattle.ledger.specs.Uses.{isPage, isAt, isShut, loanIn, noPage, noRegisters, showsRegisters}
-use Rattle.ledger.specs.Changes.{newPage, freedPage, givenPage, withLoan, openedBy, lowerAt, withUses, vacated, unregistered}
-use Rattle.ledger.specs.Consistent.{LoanOk, Coherent, Consistent}
+use Rattle.ledger.specs.Changes.{Settles, newPage, freedPage, givenPage, withLoan, openedBy, lowerAt, withUses, vacated, unregistered}
+use Rattle.ledger.specs.Words.{UseFits, PlaceFits}
+use Rattle.ledger.specs.Consistent.{Coherent, LoanOk, Consistent}
 use Rattle.ledger.proofs.Entries.{same-view}
-use Rattle.ledger.proofs.Moves.{at1, at2, same1, other1, same2, is-page}
+use Rattle.ledger.proofs.Moves.{at1, at2, same1, is-page}
 use Rattle.ledger.proofs.Laws.{used-at, within, changed, shown-page, page-shown, page-at}
 use Rattle.ledger.proofs.Coherence.{new-page-coherent, freed-page-coherent, loan-coherent, opened-coherent, lower-coherent, registers-coherent, hidden-coherent}
 
@@ -32,14 +33,17 @@ abbrev pub Made : ℕ → List ℕ → View → Type 0
 Made n t s = (viewOf n t ≡ s) × Consistent n t
 
 module _ (n : ℕ) (r m t : List ℕ) (K : Consistent n r) (len : length t ≡ length r) (c v f : ℕ) where
-  pub new-page-made : f < n → useOf r f ≡ Idle → placeOf r c v ≡ Nothing → viewOf n m ≡ withUse f (PageOf c v Home) (viewOf n r) → viewOf n t ≡ withPlace c v (Page f) (viewOf n m) → Made n t (newPage c v f (viewOf n r))
-  new-page-made l idle free e k =
-      let q = k ∙ ap (withPlace c v (Page f)) e in (q, changed n r t _ K len q (new-page-coherent (viewOf n r) (K .coherent) c v f (used-at n r f l ∙ idle) free))
+  pub settle-fits : c < 32 → v < 1024 → (u : Use) (x : Place) → f < 65536 → Settles r c v f u x → UseFits u × PlaceFits x
+  settle-fits hc hv u x hf (inl h) = (subst UseFits (sym (h .0)) (hc, hv, tt), subst PlaceFits (sym (h .1)) hf)
+  settle-fits hc hv u x hf (inr h) = (subst UseFits (sym (h .0)) tt, subst PlaceFits (sym (h .1)) tt)
 
-  pub freed-page-made : placeOf r c v ≡ Page f → viewOf n m ≡ withUse f Idle (viewOf n r) → viewOf n t ≡ withPlace c v Nothing (viewOf n m) → Made n t (freedPage c v f (viewOf n r))
-  freed-page-made shown e k =
-      let q = k ∙ ap (withPlace c v Nothing) e in
-      let u = shown-page (viewOf n r) (K .coherent) c v f shown in (q, changed n r t _ K len q (freed-page-coherent (viewOf n r) (K .coherent) c v f (u .0) (u .1)))
+  pub settle-made : (u : Use) (x : Place) → f < n → Settles r c v f u x → viewOf n m ≡ withUse f u (viewOf n r) → viewOf n t ≡ withPlace c v x (viewOf n m) → Made n t (withPlace c v x (withUse f u (viewOf n r)))
+  settle-made u x l h e k =
+      let q = k ∙ ap (withPlace c v x) e in (q, changed n r t _ K len q (go h))
+    where
+      go : Settles r c v f u x → Coherent (withPlace c v x (withUse f u (viewOf n r)))
+      go (inl s) = rw (s .0, s .1) (new-page-coherent (viewOf n r) (K .coherent) c v f (used-at n r f l ∙ s .2) (s .3))
+      go (inr s) = rw (s .0, s .1) (let u = shown-page (viewOf n r) (K .coherent) c v f (s .2) in freed-page-coherent (viewOf n r) (K .coherent) c v f (u .0) (u .1))
 
   pub loan-made : (l : Loan) → placeOf r c v ≡ Page f → LoanOk (deviceOf r) (lowOf r) c l → ((g d p : ℕ) → g < n → isAt d p l ≡ true → isAt d p (loanIn (useOf r g)) ≡ true → g ≡ f) → viewOf n t ≡ withUse f (PageOf c v l) (viewOf n r) →
       Made n t (withLoan c v f l (viewOf n r))
@@ -110,20 +114,7 @@ not-there : (n : ℕ) (r : List ℕ) → Consistent n r → (c v : ℕ) (x : Pla
 not-there n r K c v x e g h p = let u = is-page c v (viewOf n r .used g) p in h (sym e ∙ page-shown (viewOf n r) (K .coherent) c v g (u .0) (u .1))
 
 module _ (n : ℕ) (r t : List ℕ) (K : Consistent n r) (len : length t ≡ length r) (c v : ℕ) where
-  pub vacated-nothing : placeOf r c v ≡ Nothing → viewOf n r ≡ vacated c v (viewOf n r)
-  vacated-nothing e =
-      sym (same-place c v (viewOf n r) Nothing e) ∙ ap (withPlace c v Nothing) (same-view (viewOf n r) (withUses (noPage c v) (viewOf n r)) (fun-ext (λ g. no-page c v (viewOf n r .used g) (not-there n r K c v Nothing e g (λ q. let z : _≡_ {A = ℕ} 0 1 = cc in omega arith)))) refl refl refl refl)
-
   pub vacated-registers : (d : ℕ) → placeOf r c v ≡ Registers d → viewOf n t ≡ withPlace c v Nothing (viewOf n r) → Made n t (vacated c v (viewOf n r))
   vacated-registers d e k =
       let q = k ∙ ap (withPlace c v Nothing) (same-view (viewOf n r) (withUses (noPage c v) (viewOf n r)) (fun-ext (λ g. no-page c v (viewOf n r .used g) (not-there n r K c v (Registers d) e g (λ q. let z : _≡_ {A = ℕ} 0 1 = cc in omega arith)))) refl refl refl refl) in
       (q, changed n r t _ K len k (hidden-coherent (viewOf n r) (K .coherent) c v 0 (λ g h. let j : Registers d ≡ Page g = sym e ∙ h in let z : _≡_ {A = ℕ} 0 1 = cc in omega arith)))
-
-  pub vacated-page : (f : ℕ) → placeOf r c v ≡ Page f → viewOf n t ≡ freedPage c v f (viewOf n r) → viewOf n t ≡ vacated c v (viewOf n r)
-  vacated-page f e k = k ∙ ap (withPlace c v Nothing) (same-view (withUse f Idle (viewOf n r)) (withUses (noPage c v) (viewOf n r)) (fun-ext here) refl refl refl refl)
-    where
-      here : (g : ℕ) → cond (eqb g f) Idle (viewOf n r .used g) ≡ noPage c v (viewOf n r .used g)
-      here g =
-          at1 (λ z. z ≡ noPage c v (viewOf n r .used g)) g f Idle (viewOf n r .used g)
-          (λ q. let u = shown-page (viewOf n r) (K .coherent) c v f e in sym (ap (λ (k : ℕ). noPage c v (viewOf n r .used k)) q ∙ ap (noPage c v) (u .1) ∙ same2 c v Idle (PageOf c v (u .0))))
-          (λ ne. no-page c v (viewOf n r .used g) (not-there n r K c v (Page f) e g (λ q. ne (cc))))

@@ -3,29 +3,25 @@ use mathlib.Core.Path.{_≡_, refl, sym, _∙_, ap, fun-ext, subst}
 use mathlib.Core.Bool.{Bool, true, false, cond, _&&_}
 use mathlib.Core.Logic.{_⊎_, inl, inr, ⊎-elim}
 use mathlib.Core.List.{List}
-use Prim.Native.Nat.{ℕ, suc, _+_, _*_, _/_, _<_, _≤_}
+use Prim.Native.Nat.{ℕ, _+_, _<_, _≤_}
 use native.Mathlib.Omega.{arith}
 use lib.Dec.{eqb, ltb}
-use lib.ListN.{length}
-use Rattle.std.proofs.shelf.Tests.{eqb-true, eqb-false, eq-eqb, ne-eqb, lt-ltb, le-ltb, ltb-true, ltb-false, cases-eq, cases-lt, cases-bool, cond-both, and-parts, and-from, false≢true}
+use Rattle.std.proofs.shelf.Tests.{eqb-true, eq-eqb, ne-eqb, lt-ltb, le-ltb, ltb-true, cases-eq, cases-lt, cases-bool, cond-both, and-parts, and-from, false≢true}
 use Rattle.ledger.specs.declared.Loan.{Loan}
 use Rattle.ledger.specs.declared.Loan.the-variants.{Home, Lent, Leaving}
-use Rattle.ledger.specs.declared.Which.the-variants.{Upper, Lower}
 use Rattle.ledger.specs.declared.Use.{Use}
 use Rattle.ledger.specs.declared.Use.the-variants.{House, TableOf, Idle, PageOf}
-use Rattle.ledger.specs.declared.Place.{Place}
-use Rattle.ledger.specs.declared.Place.the-variants.{Nothing, Page, Registers}
+use Rattle.ledger.specs.declared.Place.the-variants.{Nothing, Page}
 use Rattle.ledger.specs.declared.Device.{Device}
-use Rattle.ledger.specs.declared.Device.the-variants.{Shut, Opened, Closing}
 use Rattle.ledger.specs.Words.{LoanFits, UseFits}
-use Rattle.ledger.specs.Room.{useOf, placeOf, deviceOf, topOf, lowOf}
-use Rattle.ledger.specs.View.{View, viewOf, withUse}
-use Rattle.ledger.specs.Uses.{isPage, isAt, isWith, loanIn, ownerIs, leavingFrom, homeFrom, sweptLoan, mapLoan, onPage}
+use Rattle.ledger.specs.Room.{useOf, placeOf, deviceOf, lowOf}
+use Rattle.ledger.specs.View.{View, viewOf}
+use Rattle.ledger.specs.Uses.{isPage, isAt, isWith, loanIn, ownerIs, sweptLoan, mapLoan, onPage}
 use Rattle.ledger.specs.Changes.{withLoan, withUses}
-use Rattle.ledger.specs.Consistent.{LoanOk, FrameOk, Coherent, Consistent}
+use Rattle.ledger.specs.Consistent.{LoanOk, Consistent}
 use Rattle.ledger.proofs.Entries.{same-view}
-use Rattle.ledger.proofs.Moves.{at1, at2, same1, other1, same2, is-page}
-use Rattle.ledger.proofs.Laws.{used-at, within, place-within, shown-page, page-shown, page-loan, page-at, use-fits}
+use Rattle.ledger.proofs.Moves.{at1, same2, is-page}
+use Rattle.ledger.proofs.Laws.{used-at, place-within, page-shown, page-loan, page-at, use-fits}
 use Rattle.ledger.proofs.Coherence.{one-owner}
 
 -- the loans of the pages of c at places below k are changed

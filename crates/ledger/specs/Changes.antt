@@ -1,5 +1,8 @@
 -- What the operations make of a room's view.
+use mathlib.Core.Path.{_≡_}
 use mathlib.Core.Bool.{cond, _&&_}
+use mathlib.Core.Logic.{_⊎_}
+use mathlib.Core.List.{List}
 use Prim.Native.Nat.{ℕ, suc}
 use lib.Dec.{eqb, ltb}
 use Rattle.ledger.specs.declared.Loan.{Loan}
@@ -7,14 +10,22 @@ use Rattle.ledger.specs.declared.Loan.the-variants.{Home}
 use Rattle.ledger.specs.declared.Which.the-variants.{Upper, Lower}
 use Rattle.ledger.specs.declared.Use.{Use}
 use Rattle.ledger.specs.declared.Use.the-variants.{House, TableOf, Idle, PageOf}
-use Rattle.ledger.specs.declared.Place.the-variants.{Nothing, Page, Registers}
+use Rattle.ledger.specs.declared.Place.{Place}
+use Rattle.ledger.specs.declared.Place.the-variants.{Nothing, Page}
 use Rattle.ledger.specs.declared.Device.the-variants.{Shut, Opened, Closing}
+use Rattle.ledger.specs.Room.{useOf, placeOf}
 use Rattle.ledger.specs.View.{View, withUse, withPlace, withDevice, withTop, withLow}
 use Rattle.ledger.specs.Uses.{mapLoan, leavingFrom, homeFrom, noTable, noLower, noLowers, noPage, notOf, notBelow, noRegisters}
 
 -- frame 0 the house's, every other idle, nothing shown, every device shut, no table
 abbrev pub empty : View
 empty = record { used = λ f. cond (eqb f 0) House Idle; place = λ c v. Nothing; device = λ d. Shut; top = λ d. 0; low = λ d i. 0 }
+
+-- In room r the idle frame f becomes the page of c at v, which showed nothing and shows it then; or f, which is that page, becomes
+-- idle, and the place shows nothing.
+abbrev pub Settles : List ℕ → ℕ → ℕ → ℕ → Use → Place → Type 0
+Settles r c v f used shown =
+    ((used ≡ PageOf c v Home) × (shown ≡ Page f) × (useOf r f ≡ Idle) × (placeOf r c v ≡ Nothing)) ⊎ ((used ≡ Idle) × (shown ≡ Nothing) × (placeOf r c v ≡ Page f))
 
 -- frame f becomes the page of c at v, and that place shows it
 abbrev pub newPage : ℕ → ℕ → ℕ → View → View

@@ -4,7 +4,6 @@ use Prim.Native.Nat.{ℕ}
 use lib.Dec.{eqb, ltb}
 use Rattle.ledger.specs.declared.Loan.{Loan}
 use Rattle.ledger.specs.declared.Loan.the-variants.{Home, Lent, Leaving}
-use Rattle.ledger.specs.declared.Which.{Which}
 use Rattle.ledger.specs.declared.Which.the-variants.{Upper, Lower}
 use Rattle.ledger.specs.declared.Use.{Use}
 use Rattle.ledger.specs.declared.Use.the-variants.{House, TableOf, Idle, PageOf}

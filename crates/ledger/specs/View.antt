@@ -2,18 +2,12 @@
 -- these is idle. Two rooms with one view say the same of every frame, place, device and slot.
 use mathlib.Core.Bool.{cond, _&&_}
 use mathlib.Core.List.{List}
-use Prim.Native.Nat.{ℕ, suc}
+use Prim.Native.Nat.{ℕ}
 use lib.Dec.{eqb, ltb}
-use Rattle.ledger.specs.declared.Loan.{Loan}
-use Rattle.ledger.specs.declared.Loan.the-variants.{Home, Lent, Leaving}
-use Rattle.ledger.specs.declared.Which.{Which}
-use Rattle.ledger.specs.declared.Which.the-variants.{Upper, Lower}
 use Rattle.ledger.specs.declared.Use.{Use}
-use Rattle.ledger.specs.declared.Use.the-variants.{House, TableOf, Idle, PageOf}
+use Rattle.ledger.specs.declared.Use.the-variants.{Idle}
 use Rattle.ledger.specs.declared.Place.{Place}
-use Rattle.ledger.specs.declared.Place.the-variants.{Nothing, Page, Registers}
 use Rattle.ledger.specs.declared.Device.{Device}
-use Rattle.ledger.specs.declared.Device.the-variants.{Shut, Opened, Closing}
 use Rattle.ledger.specs.Room.{useOf, placeOf, deviceOf, topOf, lowOf}
 
 pub record View : Type 0 where

@@ -18,7 +18,8 @@ use crate::devices::top_at;
 use crate::frames::set_use;
 use crate::slots::low_at;
 use crate::slots::set_low;
-use crate::sweeps::sweep_loans;
+use crate::sweeps::home_all;
+use crate::sweeps::leave_all;
 
 // d, which `who` has and whose registers are shown nowhere, is closing: what was lent to it is leaving.
 pub fn begin_closing(room: &mut [u64], frames: u32, who: u32, d: u32)
@@ -28,7 +29,7 @@ pub fn begin_closing(room: &mut [u64], frames: u32, who: u32, d: u32)
     ensures view { λ _. ⌜ viewOf frames (now (room .exit)) ≡ closingFor who d (viewOf frames (now (room .entry))) ⌝ }
     ensures consistent { λ _. ⌜ Consistent frames (now (room .exit)) ⌝ }
 {
-    sweep_loans(room, frames, who, d, false);
+    leave_all(room, frames, who, d);
     set_device(room, d, Device::Closing(who));
 }
 
@@ -41,7 +42,7 @@ pub fn shut_device(room: &mut [u64], frames: u32, who: u32, d: u32)
     ensures view { λ _. ⌜ viewOf frames (now (room .exit)) ≡ shutDevice d (viewOf frames (now (room .entry))) ⌝ }
     ensures consistent { λ _. ⌜ Consistent frames (now (room .exit)) ⌝ }
 {
-    sweep_loans(room, frames, who, d, true);
+    home_all(room, frames, who, d);
     drop_lowers(room, frames, d);
     drop_upper(room, frames, d);
 }

@@ -6,20 +6,22 @@ ghost use Rattle.ledger.specs.Words.{DeviceFits, deviceFrom, deviceWord};
 ghost use Rattle.ledger.specs.Room.{deviceOf, topOf};
 ghost use Rattle.ledger.specs.View.{viewOf, withDevice, withTop};
 use crate::Device;
-use crate::layout::DEVICE_STATES;
+use crate::layout::device_word;
+use crate::record::number;
 
 pub fn device_at(room: &[u64], d: u32) -> Device
     requires { ⌜ 65536 ≤ length (now room) ⌝ ∗ ⌜ d < 32 ⌝ }
     ensures { λ r. ⌜ r ≡ deviceOf (now (room .entry)) d ⌝ }
 {
-    read(room[DEVICE_STATES + 2 * d as usize])
+    read(room[device_word(d)])
 }
 
 pub fn set_device(room: &mut [u64], d: u32, state: Device)
     requires { ⌜ 65536 ≤ length (now room) ⌝ ∗ ⌜ d < 32 ⌝ ∗ ⌜ DeviceFits state ⌝ }
     ensures { λ _. ⌜ ((n : ℕ) → viewOf n (now (room .exit)) ≡ withDevice d state (viewOf n (now (room .entry)))) ⌝ }
 {
-    room[DEVICE_STATES + 2 * d as usize] = word(state);
+    let at = device_word(d);
+    room[at] = word(state);
 }
 
 // The frame of the upper table of d; 0 where none is noted.
@@ -27,14 +29,15 @@ pub fn top_at(room: &[u64], d: u32) -> u32
     requires { ⌜ 65536 ≤ length (now room) ⌝ ∗ ⌜ d < 32 ⌝ }
     ensures { λ r. ⌜ r ≡ topOf (now (room .entry)) d ⌝ }
 {
-    (room[DEVICE_STATES + 2 * d as usize + 1] % 131072) as u32
+    number(room[device_word(d) + 1])
 }
 
 pub fn set_top(room: &mut [u64], d: u32, f: u32)
     requires { ⌜ 65536 ≤ length (now room) ⌝ ∗ ⌜ d < 32 ⌝ ∗ ⌜ f < 131072 ⌝ }
     ensures { λ _. ⌜ ((n : ℕ) → viewOf n (now (room .exit)) ≡ withTop d f (viewOf n (now (room .entry)))) ⌝ }
 {
-    room[DEVICE_STATES + 2 * d as usize + 1] = f as u64;
+    let at = device_word(d) + 1;
+    room[at] = f as u64;
 }
 
 fn word(state: Device) -> u64

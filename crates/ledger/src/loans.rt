@@ -25,13 +25,13 @@ pub fn lend_page(
     f: u32,
     d: u32,
     p: u32,
-    writes: bool,
+    may_write: bool,
 )
     requires consistent { ⌜ Consistent frames (now room) ⌝ }
     requires place { ⌜ who < 32 ⌝ ∗ ⌜ v < 1024 ⌝ ∗ ⌜ placeOf (now room) who v ≡ Page f ⌝ }
     requires device { ⌜ deviceOf (now room) d ≡ Opened who ⌝ ∗ ⌜ p < 262144 ⌝ ∗ ⌜ (lowOf (now room) d (p / 512) ≡ 0 → ⊥) ⌝ }
     requires free { ⌜ ((g : ℕ) → g < frames → isAt d p (loanIn (useOf (now room) g)) ≡ true → ⊥) ⌝ }
-    ensures view { λ _. ⌜ viewOf frames (now (room .exit)) ≡ withLoan who v f (Lent d p writes) (viewOf frames (now (room .entry))) ⌝ }
+    ensures view { λ _. ⌜ viewOf frames (now (room .exit)) ≡ withLoan who v f (Lent d p «may_write») (viewOf frames (now (room .entry))) ⌝ }
     ensures consistent { λ _. ⌜ Consistent frames (now (room .exit)) ⌝ }
 {
     set_loan(
@@ -43,7 +43,7 @@ pub fn lend_page(
         Loan::Lent {
             device: d,
             page: p,
-            writes,
+            writes: may_write,
         },
     );
 }

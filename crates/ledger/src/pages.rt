@@ -7,11 +7,11 @@ ghost use Rattle.ledger.specs.declared.Loan.the-variants.{Home};
 ghost use Rattle.ledger.specs.declared.Use.the-variants.{Idle, PageOf};
 ghost use Rattle.ledger.specs.declared.Place.the-variants.{Nothing, Page};
 ghost use Rattle.ledger.specs.Room.{useOf, placeOf, deviceOf, lowOf};
-ghost use Rattle.ledger.specs.View.{viewOf};
+ghost use Rattle.ledger.specs.View.{viewOf, withUse, withPlace};
 ghost use Rattle.ledger.specs.Uses.{isAt, loanIn};
 ghost use Rattle.ledger.specs.Words.{LoanFits};
 ghost use Rattle.ledger.specs.Consistent.{Consistent, LoanOk};
-ghost use Rattle.ledger.specs.Changes.{newPage, freedPage, givenPage, withLoan};
+ghost use Rattle.ledger.specs.Changes.{Settles, newPage, freedPage, givenPage, withLoan};
 use crate::Loan;
 use crate::Place;
 use crate::Use;
@@ -26,16 +26,8 @@ pub fn new_page(room: &mut [u64], frames: u32, who: u32, v: u32, f: u32)
     ensures view { λ _. ⌜ viewOf frames (now (room .exit)) ≡ newPage who v f (viewOf frames (now (room .entry))) ⌝ }
     ensures consistent { λ _. ⌜ Consistent frames (now (room .exit)) ⌝ }
 {
-    set_use(
-        room,
-        f,
-        Use::PageOf {
-            who,
-            place: v,
-            loan: Loan::Home,
-        },
-    );
-    set_place(room, who, v, Place::Page(f));
+    let page = page_of(who, v, Loan::Home);
+    settle(room, frames, who, v, f, page, Place::Page(f));
 }
 
 // Frame f, the page of `who` at v, becomes idle, and the place shows nothing.
@@ -45,8 +37,19 @@ pub fn free_page(room: &mut [u64], frames: u32, who: u32, v: u32, f: u32)
     ensures view { λ _. ⌜ viewOf frames (now (room .exit)) ≡ freedPage who v f (viewOf frames (now (room .entry))) ⌝ }
     ensures consistent { λ _. ⌜ Consistent frames (now (room .exit)) ⌝ }
 {
-    set_use(room, f, Use::Idle);
-    set_place(room, who, v, Place::Nothing);
+    settle(room, frames, who, v, f, Use::Idle, Place::Nothing);
+}
+
+// Frame f is used so and place v of `who` shows this: an idle frame becomes a page, or a page becomes idle.
+fn settle(room: &mut [u64], frames: u32, who: u32, v: u32, f: u32, used: Use, shown: Place)
+    requires consistent { ⌜ Consistent frames (now room) ⌝ }
+    requires place { ⌜ who < 32 ⌝ ∗ ⌜ v < 1024 ⌝ ∗ ⌜ f < frames ⌝ }
+    requires settles { ⌜ Settles (now room) who v f used shown ⌝ }
+    ensures view { λ _. ⌜ viewOf frames (now (room .exit)) ≡ withPlace who v shown (withUse f used (viewOf frames (now (room .entry)))) ⌝ }
+    ensures consistent { λ _. ⌜ Consistent frames (now (room .exit)) ⌝ }
+{
+    set_use(room, f, used);
+    set_place(room, who, v, shown);
 }
 
 // Frame f, the page of `who` at v, becomes that of `to` at u, where nothing was shown; it is home.
@@ -70,13 +73,16 @@ pub fn set_loan(room: &mut [u64], frames: u32, who: u32, v: u32, f: u32, loan: L
     ensures view { λ _. ⌜ viewOf frames (now (room .exit)) ≡ withLoan who v f loan (viewOf frames (now (room .entry))) ⌝ }
     ensures consistent { λ _. ⌜ Consistent frames (now (room .exit)) ⌝ }
 {
-    set_use(
-        room,
-        f,
-        Use::PageOf {
-            who,
-            place: v,
-            loan,
-        },
-    );
+    let page = page_of(who, v, loan);
+    set_use(room, f, page);
+}
+
+fn page_of(who: u32, v: u32, loan: Loan) -> Use
+    ensures { λ r. ⌜ r ≡ PageOf who v loan ⌝ }
+{
+    Use::PageOf {
+        who,
+        place: v,
+        loan,
+    }
 }

@@ -6,19 +6,21 @@ ghost use Rattle.ledger.specs.Words.{PlaceFits, placeFrom, placeWord};
 ghost use Rattle.ledger.specs.Room.{placeOf};
 ghost use Rattle.ledger.specs.View.{viewOf, withPlace};
 use crate::Place;
+use crate::layout::place_word;
 
 pub fn place_at(room: &[u64], who: u32, v: u32) -> Place
     requires { ⌜ 65536 ≤ length (now room) ⌝ ∗ ⌜ who < 32 ⌝ ∗ ⌜ v < 1024 ⌝ }
     ensures { λ r. ⌜ r ≡ placeOf (now (room .entry)) who v ⌝ }
 {
-    read(room[who as usize * 1024 + v as usize])
+    read(room[place_word(who, v)])
 }
 
 pub fn set_place(room: &mut [u64], who: u32, v: u32, shown: Place)
     requires { ⌜ 65536 ≤ length (now room) ⌝ ∗ ⌜ who < 32 ⌝ ∗ ⌜ v < 1024 ⌝ ∗ ⌜ PlaceFits shown ⌝ }
     ensures { λ _. ⌜ ((n : ℕ) → viewOf n (now (room .exit)) ≡ withPlace who v shown (viewOf n (now (room .entry)))) ⌝ }
 {
-    room[who as usize * 1024 + v as usize] = word(shown);
+    let at = place_word(who, v);
+    room[at] = word(shown);
 }
 
 fn word(shown: Place) -> u64

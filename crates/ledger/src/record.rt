@@ -1,6 +1,6 @@
 // What is known of a frame, packed into two words.
 ghost use mathlib.Core.Path.{_≡_};
-ghost use Rattle.ledger.specs.Words.{Canonical, UseFits, LoanFits, WhichFits, lowWord, highWord, loanWord, whichWord, useFrom, loanFrom, whichFrom};
+ghost use Rattle.ledger.specs.Words.{Canonical, UseFits, LoanFits, WhichFits, lowWord, highWord, loanWord, whichWord, useFrom, loanFrom, whichFrom, numberFrom};
 use crate::Loan;
 use crate::Use;
 use crate::Which;
@@ -128,4 +128,11 @@ fn read_loan(word: u64) -> Loan
             writes,
         }
     }
+}
+
+// The number that a word holds as such, as a table's frame.
+pub fn number(word: u64) -> u32
+    ensures { λ r. ⌜ r ≡ numberFrom word ⌝ }
+{
+    (word % 131072) as u32
 }

@@ -10,8 +10,8 @@ ghost use Rattle.ledger.specs.Room.{useOf};
 ghost use Rattle.ledger.specs.View.{viewOf};
 ghost use Rattle.ledger.specs.Consistent.{Consistent};
 ghost use Rattle.ledger.specs.Changes.{empty};
-use crate::layout::FRAME_RECORDS;
 use crate::layout::LEFT_OVER;
+use crate::layout::frame_word;
 
 // Frame 0 is the house's and every other is idle; nothing is shown, every device is shut, and there is no table.
 // Words past the last frame's record stay as they are.
@@ -41,7 +41,7 @@ fn clear_frames(room: &mut [u64], frames: u32)
     ensures others { λ _. ⌜ ((i : ℕ) → (i < 65536) ⊎ (65536 + 2 * frames ≤ i) → getD (now (room .exit)) i 0 ≡ getD (now (room .entry)) i 0) ⌝ }
 {
     for f in 0..frames {
-        let at = FRAME_RECORDS + 2 * f as usize;
+        let at = frame_word(f);
         let low = if f == 0 { 0 } else { 2 };
         room[at] = low;
         room[at + 1] = 0;

@@ -4,18 +4,20 @@ ghost use Prim.Native.Nat.{ℕ, _<_, _≤_};
 ghost use lib.ListN.{length};
 ghost use Rattle.ledger.specs.Room.{lowOf};
 ghost use Rattle.ledger.specs.View.{viewOf, withLow};
-use crate::layout::LOWER_TABLES;
+use crate::layout::slot_word;
+use crate::record::number;
 
 pub fn low_at(room: &[u64], d: u32, slot: u32) -> u32
     requires { ⌜ 65536 ≤ length (now room) ⌝ ∗ ⌜ d < 32 ⌝ ∗ ⌜ slot < 512 ⌝ }
     ensures { λ r. ⌜ r ≡ lowOf (now (room .entry)) d slot ⌝ }
 {
-    (room[LOWER_TABLES + d as usize * 512 + slot as usize] % 131072) as u32
+    number(room[slot_word(d, slot)])
 }
 
 pub fn set_low(room: &mut [u64], d: u32, slot: u32, x: u32)
     requires { ⌜ 65536 ≤ length (now room) ⌝ ∗ ⌜ d < 32 ⌝ ∗ ⌜ slot < 512 ⌝ ∗ ⌜ x < 131072 ⌝ }
     ensures { λ _. ⌜ ((n : ℕ) → viewOf n (now (room .exit)) ≡ withLow d slot x (viewOf n (now (room .entry)))) ⌝ }
 {
-    room[LOWER_TABLES + d as usize * 512 + slot as usize] = x as u64;
+    let at = slot_word(d, slot);
+    room[at] = x as u64;
 }

@@ -2,10 +2,9 @@
 ghost use mathlib.Core.Path.{_≡_};
 ghost use mathlib.Core.Bool.{true};
 ghost use Prim.Native.Nat.{_<_};
-ghost use Rattle.ledger.specs.Words.{LoanFits};
 ghost use Rattle.ledger.specs.Room.{deviceOf};
 ghost use Rattle.ledger.specs.View.{viewOf};
-ghost use Rattle.ledger.specs.Uses.{ownerIs, mapLoan, onPage, sweptLoan};
+ghost use Rattle.ledger.specs.Uses.{ownerIs, homeFrom, leavingFrom, mapLoan, onPage, sweptLoan};
 ghost use Rattle.ledger.specs.Changes.{withUses};
 ghost use Rattle.ledger.specs.Consistent.{Consistent};
 use crate::Loan;
@@ -15,9 +14,28 @@ use crate::frames::use_at;
 use crate::pages::set_loan;
 use crate::places::place_at;
 
-// What is lent to d is leaving it; or, if it is to come home, what is lent to d or leaving it is home. Every loan to d is of
-// the program that has d, so its places are all that there are to look at.
-pub fn sweep_loans(room: &mut [u64], frames: u32, who: u32, d: u32, home: bool)
+// What is lent to d is leaving it.
+pub fn leave_all(room: &mut [u64], frames: u32, who: u32, d: u32)
+    requires consistent { ⌜ Consistent frames (now room) ⌝ }
+    requires device { ⌜ who < 32 ⌝ ∗ ⌜ ownerIs who (deviceOf (now room) d) ≡ true ⌝ }
+    ensures view { λ _. ⌜ viewOf frames (now (room .exit)) ≡ withUses (mapLoan (leavingFrom d)) (viewOf frames (now (room .entry))) ⌝ }
+    ensures consistent { λ _. ⌜ Consistent frames (now (room .exit)) ⌝ }
+{
+    sweep_loans(room, frames, who, d, false);
+}
+
+// What is lent to d or leaving it is home.
+pub fn home_all(room: &mut [u64], frames: u32, who: u32, d: u32)
+    requires consistent { ⌜ Consistent frames (now room) ⌝ }
+    requires device { ⌜ who < 32 ⌝ ∗ ⌜ ownerIs who (deviceOf (now room) d) ≡ true ⌝ }
+    ensures view { λ _. ⌜ viewOf frames (now (room .exit)) ≡ withUses (mapLoan (homeFrom d)) (viewOf frames (now (room .entry))) ⌝ }
+    ensures consistent { λ _. ⌜ Consistent frames (now (room .exit)) ⌝ }
+{
+    sweep_loans(room, frames, who, d, true);
+}
+
+// Every loan to d is of the program that has d, so its places are all that there are to look at.
+fn sweep_loans(room: &mut [u64], frames: u32, who: u32, d: u32, home: bool)
     requires consistent { ⌜ Consistent frames (now room) ⌝ }
     requires device { ⌜ who < 32 ⌝ ∗ ⌜ ownerIs who (deviceOf (now room) d) ≡ true ⌝ }
     ensures view { λ _. ⌜ viewOf frames (now (room .exit)) ≡ withUses (mapLoan (sweptLoan home d)) (viewOf frames (now (room .entry))) ⌝ }

@@ -2,7 +2,7 @@
 ghost use mathlib.Core.Path.{_≡_};
 ghost use mathlib.Core.Bool.{false};
 ghost use Prim.Native.Nat.{_<_};
-ghost use Rattle.ledger.specs.declared.Use.the-variants.{Idle};
+ghost use Rattle.ledger.specs.declared.Use.the-variants.{Idle, TableOf};
 ghost use Rattle.ledger.specs.declared.Device.the-variants.{Shut};
 ghost use Rattle.ledger.specs.Room.{useOf, deviceOf, lowOf};
 ghost use Rattle.ledger.specs.View.{viewOf};
@@ -25,14 +25,8 @@ pub fn open_device(room: &mut [u64], frames: u32, who: u32, d: u32, f: u32)
     ensures view { λ _. ⌜ viewOf frames (now (room .exit)) ≡ openedBy who d f (viewOf frames (now (room .entry))) ⌝ }
     ensures consistent { λ _. ⌜ Consistent frames (now (room .exit)) ⌝ }
 {
-    set_use(
-        room,
-        f,
-        Use::TableOf {
-            device: d,
-            which: Which::Upper,
-        },
-    );
+    let table = table_of(d, Which::Upper);
+    set_use(room, f, table);
     set_top(room, d, f);
     set_device(room, d, Device::Opened(who));
 }
@@ -45,13 +39,13 @@ pub fn add_lower(room: &mut [u64], frames: u32, d: u32, slot: u32, f: u32)
     ensures view { λ _. ⌜ viewOf frames (now (room .exit)) ≡ lowerAt d slot f (viewOf frames (now (room .entry))) ⌝ }
     ensures consistent { λ _. ⌜ Consistent frames (now (room .exit)) ⌝ }
 {
-    set_use(
-        room,
-        f,
-        Use::TableOf {
-            device: d,
-            which: Which::Lower(slot),
-        },
-    );
+    let table = table_of(d, Which::Lower(slot));
+    set_use(room, f, table);
     set_low(room, d, slot, f + 1);
+}
+
+fn table_of(device: u32, which: Which) -> Use
+    ensures { λ r. ⌜ r ≡ TableOf device which ⌝ }
+{
+    Use::TableOf { device, which }
 }

@@ -1,7 +1,4 @@
-use mathlib.Core.Path.{_≡_, sym}
-use Prim.Native.Nat.{_<_}
 use native.Mathlib.Omega.{arith}
-use Rattle.ledger.specs.Room.{topOf}
 use Rattle.ledger.proofs.Closed.{top-within, shut-made}
 use Rattle.ledger.proofs.closing.drop_upper.Needs as need
 

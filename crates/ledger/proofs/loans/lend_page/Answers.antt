@@ -7,5 +7,5 @@ set-loan-requires c κs =
       consistent = c .pre .consistent;
       place = c .pre .place;
       loan = ((opened-within (c .args .room .now) (c .args .who) (c .args .d) (c .pre .device .0), c .pre .device .1 .0), (c .pre .device .0, c .pre .device .1 .0, c .pre .device .1 .1));
-      alone = lent-alone (c .args .frames) (c .args .room .now) (c .args .f) (c .args .d) (c .args .p) (c .args .writes) (c .pre .free);
+      alone = lent-alone (c .args .frames) (c .args .room .now) (c .args .f) (c .args .d) (c .args .p) (c .args .may-write) (c .pre .free);
     }

@@ -3,7 +3,7 @@ use mathlib.Core.Bool.{true}
 use native.Mathlib.Omega.{arith}
 use Rattle.ledger.specs.Room.{placeOf}
 use Rattle.ledger.specs.Uses.{showsRegisters}
-use Rattle.ledger.proofs.Operations.{unregistered-not, unregistered-made}
+use Rattle.ledger.proofs.Operations.{unregistered-made}
 use Rattle.ledger.proofs.registers.hide_registers.Needs as need
 
 pub returns : need.returns

@@ -1,9 +1,9 @@
-use mathlib.Core.Path.{sym, _∙_, ap, subst}
+use mathlib.Core.Path.{sym, _∙_, ap}
 use Rattle.ledger.specs.declared.Loan.{Loan}
 use Rattle.ledger.specs.View.{viewOf}
 use Rattle.ledger.specs.Uses.{sweptLoan}
 use Rattle.ledger.specs.Changes.{withLoan}
-use Rattle.ledger.proofs.Swept.{swept-may, swept-alone, same-page, place-swept, place-skipped}
+use Rattle.ledger.proofs.Swept.{swept-may, swept-alone, same-page, place-swept}
 use Rattle.ledger.proofs.sweeps.sweep_place.Needs as need
 
 pub set-loan-requires : need.set-loan-requires
