@@ -4,6 +4,6 @@ use Rattle.ledger.proofs.closing.begin_closing.Goals as goal
 
 pub returns : goal.returns
 returns c =
-    let made = closing_made c.args.frames c.args.room.now c.leave-all.new.room c.set-device.new.room c.args.who c.args.d c.leave-all.ensures.consistent (omega arith) c.requires.device.1.1
-    c.requires.hidden c.leave-all.ensures.view (c.set-device.ensures c.args.frames) in
+    let made = closing_made c.args.frames c.args.room.now c.leave_all.new.room c.set_device.new.room c.args.who c.args.d c.leave_all.ensures.consistent (omega arith) c.requires.device.1.1
+    c.requires.hidden c.leave_all.ensures.view (c.set_device.ensures c.args.frames) in
     record { view = made.0; consistent = made.1 }

@@ -17,13 +17,13 @@ loop-slot-init c = (c.requires.consistent, lowers_none c.args.d (view_of c.args.
 
 pub loop-slot-preserved : goal.loop-slot-preserved
 loop-slot-preserved c = (
-  c.drop-lower.ensures.consistent,
-  lowers_more c.args.d c.loop-slot.slot (view_of c.args.frames c.args.room.now) (view_of c.args.frames c.loop-slot.room) (view_of c.args.frames c.drop-lower.new.room) c.loop-slot.invariant.1
-      c.drop-lower.ensures.view,
+  c.drop_lower.ensures.consistent,
+  lowers_more c.args.d c.loop-slot.slot (view_of c.args.frames c.args.room.now) (view_of c.args.frames c.loop-slot.room) (view_of c.args.frames c.drop_lower.new.room) c.loop-slot.invariant.1
+      c.drop_lower.ensures.view,
 )
 
-pub drop-lower-requires : goal.drop-lower-requires
-drop-lower-requires c =
+pub drop_lower-requires : goal.drop_lower-requires
+drop_lower-requires c =
     record {
       consistent = c.loop-slot.invariant.0;
       device = (

@@ -7,19 +7,19 @@ use Rattle.ledger.specs.Changes.{with_loan}
 use Rattle.ledger.proofs.Loaned.{recalled_may, recalled_alone}
 use Rattle.ledger.proofs.loans.recall_page.Goals as goal
 
-pub set-loan-requires : goal.set-loan-requires
-set-loan-requires c =
+pub set_loan-requires : goal.set_loan-requires
+set_loan-requires c =
     record {
       consistent = c.requires.consistent;
       place = c.requires.place;
-      loan = recalled_may c.args.frames c.args.room.now c.requires.consistent c.args.who c.args.v c.args.f c.args.home c.requires.place.1.1 c.recalled-after.result (c.recalled-after.ensures ∙ ap (λ (u : Use). recalled_loan c.args.home (loan_in u)) c.use-at-used.ensures);
-      alone = recalled_alone c.args.frames c.args.room.now c.requires.consistent c.args.who c.args.v c.args.f c.args.home c.requires.place.1.1 c.recalled-after.result (c.recalled-after.ensures ∙ ap (λ (u : Use). recalled_loan c.args.home (loan_in u)) c.use-at-used.ensures);
+      loan = recalled_may c.args.frames c.args.room.now c.requires.consistent c.args.who c.args.v c.args.f c.args.home c.requires.place.1.1 c.recalled-after.result (c.recalled-after.ensures ∙ ap (λ (u : Use). recalled_loan c.args.home (loan_in u)) c.use_at-used.ensures);
+      alone = recalled_alone c.args.frames c.args.room.now c.requires.consistent c.args.who c.args.v c.args.f c.args.home c.requires.place.1.1 c.recalled-after.result (c.recalled-after.ensures ∙ ap (λ (u : Use). recalled_loan c.args.home (loan_in u)) c.use_at-used.ensures);
     }
 
 pub returns : goal.returns
 returns c =
     record {
-      view = c.set-loan.ensures.view ∙
-          ap (λ (l : Loan). with_loan c.args.who c.args.v c.args.f l (view_of c.args.frames c.args.room.now)) (c.recalled-after.ensures ∙ ap (λ (u : Use). recalled_loan c.args.home (loan_in u)) c.use-at-used.ensures);
-      consistent = c.set-loan.ensures.consistent;
+      view = c.set_loan.ensures.view ∙
+          ap (λ (l : Loan). with_loan c.args.who c.args.v c.args.f l (view_of c.args.frames c.args.room.now)) (c.recalled-after.ensures ∙ ap (λ (u : Use). recalled_loan c.args.home (loan_in u)) c.use_at-used.ensures);
+      consistent = c.set_loan.ensures.consistent;
     }

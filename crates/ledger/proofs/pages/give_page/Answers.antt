@@ -7,7 +7,7 @@ use Rattle.ledger.proofs.pages.give_page.Goals as goal
 pub returns : goal.returns
 returns c =
     record {
-      view = c.new-page.ensures.view ∙ ap (new_page c.args.to c.args.u c.args.f) c.free-page.ensures.view ∙
+      view = c.new_page.ensures.view ∙ ap (new_page c.args.to c.args.u c.args.f) c.free_page.ensures.view ∙
           given_is c.args.who c.args.v c.args.to c.args.u c.args.f (view_of c.args.frames c.args.room.now);
-      consistent = c.new-page.ensures.consistent;
+      consistent = c.new_page.ensures.consistent;
     }

@@ -5,12 +5,12 @@ use Rattle.ledger.proofs.setup.set_up.Goals as goal
 pub returns : goal.returns
 returns c =
     record {
-      view = cleared_view c.args.frames c.clear-frames.new.room c.requires.1.0 c.clear-frames.ensures.idle (λ i l. c.clear-frames.ensures.others i (inl (omega arith)) ∙ c.clear-tables.ensures.cleared i l);
+      view = cleared_view c.args.frames c.clear_frames.new.room c.requires.1.0 c.clear_frames.ensures.idle (λ i l. c.clear_frames.ensures.others i (inl (omega arith)) ∙ c.clear_tables.ensures.cleared i l);
       consistent = record {
         long = omega arith;
         some = c.requires.1.0;
         few = c.requires.1.1;
-        coherent = cleared_coherent c.args.frames c.clear-frames.new.room c.requires.1.0 c.clear-frames.ensures.idle (λ i l. c.clear-frames.ensures.others i (inl (omega arith)) ∙ c.clear-tables.ensures.cleared i l);
+        coherent = cleared_coherent c.args.frames c.clear_frames.new.room c.requires.1.0 c.clear_frames.ensures.idle (λ i l. c.clear_frames.ensures.others i (inl (omega arith)) ∙ c.clear_tables.ensures.cleared i l);
       };
-      beyond = λ i l. c.clear-frames.ensures.others i (inr l) ∙ c.clear-tables.ensures.others i (omega arith);
+      beyond = λ i l. c.clear_frames.ensures.others i (inr l) ∙ c.clear_tables.ensures.others i (omega arith);
     }

@@ -19,7 +19,7 @@ loop-v-init c = (c.requires.consistent, swept_none c.args.who (swept_loan c.args
 
 pub loop-v-preserved : goal.loop-v-preserved
 loop-v-preserved c = (
-  c.sweep-place.ensures.consistent,
-  swept_more c.args.who c.loop-v.v (swept_loan c.args.home c.args.d) (view_of c.args.frames c.args.room.now) (view_of c.args.frames c.loop-v.room) (view_of c.args.frames c.sweep-place.new.room)
-      c.loop-v.invariant.1 c.sweep-place.ensures.view,
+  c.sweep_place.ensures.consistent,
+  swept_more c.args.who c.loop-v.v (swept_loan c.args.home c.args.d) (view_of c.args.frames c.args.room.now) (view_of c.args.frames c.loop-v.room) (view_of c.args.frames c.sweep_place.new.room)
+      c.loop-v.invariant.1 c.sweep_place.ensures.view,
 )

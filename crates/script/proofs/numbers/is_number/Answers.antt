@@ -19,5 +19,5 @@ loop-b-preserved c =
 
 pub returns : goal.returns
 returns c =
-    let some : 0 < length c.args.word.now = omega (arith, eqb-false _ _ (sym c.if-is-empty.ensures)) in
+    let some : 0 < length c.args.word.now = omega (arith, eqb-false _ _ (sym c.if-is_empty.ensures)) in
     sym (all_seen c.args.word.now c.loop-b.b-index some c.loop-b-test.false c.loop-b.invariant)

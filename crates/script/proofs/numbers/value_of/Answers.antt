@@ -3,8 +3,8 @@ use Rattle.script.specs.Decimal.{value_after}
 use Rattle.script.proofs.Digits.{a_digit, value_step, too_large, exactly}
 use Rattle.script.proofs.numbers.value_of.Goals as goal
 
-pub overflow-sub-b : goal.overflow-sub-b
-overflow-sub-b c = (a_digit c.args.digits.now c.loop-b.b-index c.loop-b-test.true c.loop-b.invariant.0).0
+pub overflow_sub-b : goal.overflow_sub-b
+overflow_sub-b c = (a_digit c.args.digits.now c.loop-b.b-index c.loop-b-test.true c.loop-b.invariant.0).0
 
 pub returns-then-n-digit : goal.returns-then-n-digit
 returns-then-n-digit c =

@@ -26,6 +26,6 @@ returns t c =
       end = omega arith;
       after =
           c.put-2.ensures.after
-          ∙ ap (λ (front : List ℕ). front ++ ((48 + c.args.n % 10) ∷ [])) c.put-number-end.ensures.after
+          ∙ ap (λ (front : List ℕ). front ++ ((48 + c.args.n % 10) ∷ [])) c.put_number-end.ensures.after
           ∙ more_digits c.args.n c.if-n-lt10.false small (take c.args.at c.args.out.now);
     }
