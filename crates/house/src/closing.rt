@@ -33,10 +33,10 @@ fn plan_close(room: &[u64], frames: u32, devices: u32, who: u32, d: u32) -> Resu
 
 // Unmaps every place of `who`, who has d, that shows the registers of d.
 fn unmap_registers<M: Machine>(w: &mut M, room: &mut [u64], frames: u32, who: u32, d: u32)
-    requires soon { 1024 ≤ (M.Machine.hw w.old).left }
+    requires soon { 1024 ≤ (M.hw w.old).left }
     requires consistent { Consistent frames room.old }
     requires device { (who < 32) × (owner_is who (device_of room.old d) ≡ true) }
-    ensures hid { Hid who (λ v. shows_registers d (place_of room.old who v)) (M.Machine.hw w.old) (M.Machine.seen w.old) 1024 (M.Machine.hw w.new) (M.Machine.seen w.new) }
+    ensures hid { Hid who (λ v. shows_registers d (place_of room.old who v)) (M.hw w.old) (M.seen w.old) 1024 (M.hw w.new) (M.seen w.new) }
     ensures view { view_of frames room.new ≡ without_registers d (view_of frames room.old) }
     ensures consistent { Consistent frames room.new }
 {
@@ -62,12 +62,12 @@ fn shut(forgotten: Forgotten, room: &mut [u64], frames: u32, who: u32, d: u32)
 
 // Asks the IOMMU once to forget d, whose registers are shown nowhere: if it has, d is shut, and else closing. Says which.
 pub fn forget<M: Machine>(w: &mut M, room: &mut [u64], frames: u32, who: u32, d: u32) -> bool
-    requires soon { 0 < (M.Machine.hw w.old).left }
+    requires soon { 0 < (M.hw w.old).left }
     requires consistent { Consistent frames room.old }
-    requires device { (who < 32) × ((d < 32) × ((d < (M.Machine.hw w.old).devices) × (owner_is who (device_of room.old d) ≡ true))) }
+    requires device { (who < 32) × ((d < 32) × ((d < (M.hw w.old).devices) × (owner_is who (device_of room.old d) ≡ true))) }
     requires hidden { (a b : ℕ) → place_of room.old a b ≢ Registers d }
-    ensures drained { Drains d (M.Machine.hw w.old) (M.Machine.seen w.old) result (M.Machine.hw w.new) (M.Machine.seen w.new) }
-    ensures asked { Asked1 (M.Machine.hw w.old) (M.Machine.hw w.new) }
+    ensures drained { Drains d (M.hw w.old) (M.seen w.old) result (M.hw w.new) (M.seen w.new) }
+    ensures asked { Asked1 (M.hw w.old) (M.hw w.new) }
     ensures view { view_of frames room.new ≡ closed_as result who d (view_of frames room.old) }
     ensures consistent { Consistent frames room.new }
 {
@@ -86,11 +86,11 @@ pub fn forget<M: Machine>(w: &mut M, room: &mut [u64], frames: u32, who: u32, d:
 // d leaves frame 0, so that the IOMMU, once it has forgotten d, learns nothing of it again; its registers are hidden, and it is
 // asked once to be forgotten. It takes effect when the IOMMU has answered.
 pub fn close<M: Machine>(w: &mut M, room: &mut [u64], who: u32, d: u32) -> Result<Answer, Refusal>
-    requires soon { 2048 ≤ (M.Machine.hw w.old).left }
-    requires begins { Begins room.old who (Call.Close d) (M.Machine.hw w.old) (M.Machine.seen w.old) }
-    ensures told { Keeps room.new Quiet (M.Machine.hw w.new) (Told who (Call.Close d) (answer_of result) ∷ M.Machine.seen w.new) }
+    requires soon { 2048 ≤ (M.hw w.old).left }
+    requires begins { Begins room.old who (Call.Close d) (M.hw w.old) (M.seen w.old) }
+    ensures told { Keeps room.new Quiet (M.hw w.new) (Told who (Call.Close d) (answer_of result) ∷ M.seen w.new) }
     ensures accepted { NeverNo result }
-    ensures refused { IfRefused result ((room.new ≡ room.old) × (M.Machine.hw w.new ≡ M.Machine.hw w.old) × (M.Machine.seen w.new ≡ M.Machine.seen w.old)) }
+    ensures refused { IfRefused result ((room.new ≡ room.old) × (M.hw w.new ≡ M.hw w.old) × (M.seen w.new ≡ M.seen w.old)) }
 {
     let frames = w.frames();
     let devices = w.devices();

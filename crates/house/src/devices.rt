@@ -30,8 +30,8 @@ fn driven_by(driver: u32, who: u32) -> Result<(), Refusal>
 
 // No other program than `who` holds a device of d's group.
 fn group_is_free<M: Machine>(w: &M, room: &[u64], who: u32, d: u32) -> Result<(), Refusal>
-    requires { (65536 ≤ length room.now) × ((M.Machine.hw w.now).devices ≤ 32) }
-    ensures { MatchResult result (λ _. GroupFree (device_of room.now) (M.Machine.hw w.now).devices (M.Machine.hw w.now).group who d) (λ e. (e ≡ Refusal.Held) × GroupHeld (device_of room.now) (M.Machine.hw w.now).devices (M.Machine.hw w.now).group who d) }
+    requires { (65536 ≤ length room.now) × ((M.hw w.now).devices ≤ 32) }
+    ensures { MatchResult result (λ _. GroupFree (device_of room.now) (M.hw w.now).devices (M.hw w.now).group who d) (λ e. (e ≡ Refusal.Held) × GroupHeld (device_of room.now) (M.hw w.now).devices (M.hw w.now).group who d) }
 {
     let group = w.group(d);
     for e in 0..w.devices() {
@@ -44,8 +44,8 @@ fn group_is_free<M: Machine>(w: &M, room: &[u64], who: u32, d: u32) -> Result<()
 
 // What an open finds in the room: an idle frame for the upper table, or why it is refused.
 fn plan_open<M: Machine>(w: &M, room: &[u64], from: u32, who: u32, d: u32) -> Result<Taken, Refusal>
-    requires { (Consistent (M.Machine.hw w.now).frames room.now) × ((M.Machine.hw w.now).devices ≤ 32) }
-    ensures { MatchResult result (λ t. (d < (M.Machine.hw w.now).devices) × ((M.Machine.hw w.now).driver d ≡ who) × (device_of room.now d ≡ Shut) × GroupFree (device_of room.now) (M.Machine.hw w.now).devices (M.Machine.hw w.now).group who d × (t.settled ≡ false) × (t.frame < (M.Machine.hw w.now).frames) × (use_of room.now t.frame ≡ Idle)) (λ e. OpenRefused (view_of (M.Machine.hw w.now).frames room.now) (M.Machine.hw w.now).frames (M.Machine.hw w.now).devices (M.Machine.hw w.now).group (M.Machine.hw w.now).driver who d e) }
+    requires { (Consistent (M.hw w.now).frames room.now) × ((M.hw w.now).devices ≤ 32) }
+    ensures { MatchResult result (λ t. (d < (M.hw w.now).devices) × ((M.hw w.now).driver d ≡ who) × (device_of room.now d ≡ Shut) × GroupFree (device_of room.now) (M.hw w.now).devices (M.hw w.now).group who d × (t.settled ≡ false) × (t.frame < (M.hw w.now).frames) × (use_of room.now t.frame ≡ Idle)) (λ e. OpenRefused (view_of (M.hw w.now).frames room.now) (M.hw w.now).frames (M.hw w.now).devices (M.hw w.now).group (M.hw w.now).driver who d e) }
 {
     device(w.devices(), d)?;
     driven_by(w.driver(d), who)?;
@@ -62,11 +62,11 @@ pub fn open_device<M: Machine>(
     who: u32,
     d: u32,
 ) -> Result<Answer, Refusal>
-    requires soon { 2048 ≤ (M.Machine.hw w.old).left }
-    requires begins { Begins room.old who (Call.Open d) (M.Machine.hw w.old) (M.Machine.seen w.old) }
-    ensures told { Keeps room.new Quiet (M.Machine.hw w.new) (Told who (Call.Open d) (answer_of result) ∷ M.Machine.seen w.new) }
+    requires soon { 2048 ≤ (M.hw w.old).left }
+    requires begins { Begins room.old who (Call.Open d) (M.hw w.old) (M.seen w.old) }
+    ensures told { Keeps room.new Quiet (M.hw w.new) (Told who (Call.Open d) (answer_of result) ∷ M.seen w.new) }
     ensures accepted { NeverNo result }
-    ensures refused { IfRefused result ((room.new ≡ room.old) × (M.Machine.hw w.new ≡ M.Machine.hw w.old) × (M.Machine.seen w.new ≡ M.Machine.seen w.old) × (next.new ≡ next.old)) }
+    ensures refused { IfRefused result ((room.new ≡ room.old) × (M.hw w.new ≡ M.hw w.old) × (M.seen w.new ≡ M.seen w.old) × (next.new ≡ next.old)) }
 {
     let frames = w.frames();
     let taken = plan_open(w, room, *next, who, d)?;
@@ -96,11 +96,11 @@ pub fn map_registers<M: Machine>(
     d: u32,
     v: u32,
 ) -> Result<Answer, Refusal>
-    requires soon { 2048 ≤ (M.Machine.hw w.old).left }
-    requires begins { Begins room.old who (Call.Regs d v) (M.Machine.hw w.old) (M.Machine.seen w.old) }
-    ensures told { Keeps room.new Quiet (M.Machine.hw w.new) (Told who (Call.Regs d v) (answer_of result) ∷ M.Machine.seen w.new) }
+    requires soon { 2048 ≤ (M.hw w.old).left }
+    requires begins { Begins room.old who (Call.Regs d v) (M.hw w.old) (M.seen w.old) }
+    ensures told { Keeps room.new Quiet (M.hw w.new) (Told who (Call.Regs d v) (answer_of result) ∷ M.seen w.new) }
     ensures accepted { NeverNo result }
-    ensures refused { IfRefused result ((room.new ≡ room.old) × (M.Machine.hw w.new ≡ M.Machine.hw w.old) × (M.Machine.seen w.new ≡ M.Machine.seen w.old)) }
+    ensures refused { IfRefused result ((room.new ≡ room.old) × (M.hw w.new ≡ M.hw w.old) × (M.seen w.new ≡ M.seen w.old)) }
 {
     let frames = w.frames();
     plan_registers(room, w.devices(), who, d, v)?;

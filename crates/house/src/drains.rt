@@ -25,9 +25,9 @@ impl Drop for Forgotten {
 impl Forgotten {
     // Asks the IOMMU to forget device d, once; None if it says no.
     pub fn ask<M: Machine>(w: &mut M, d: u32) -> Option<Forgotten>
-        requires { (0 < (M.Machine.hw w.old).left) × (d < (M.Machine.hw w.old).devices) }
-        ensures drained { MatchOption result (Drains d (M.Machine.hw w.old) (M.Machine.seen w.old) false (M.Machine.hw w.new) (M.Machine.seen w.new)) (λ t. (t.spent ≡ false) × (t.device ≡ d) × Drains d (M.Machine.hw w.old) (M.Machine.seen w.old) true (M.Machine.hw w.new) (M.Machine.seen w.new)) }
-        ensures asked { Asked1 (M.Machine.hw w.old) (M.Machine.hw w.new) }
+        requires { (0 < (M.hw w.old).left) × (d < (M.hw w.old).devices) }
+        ensures drained { MatchOption result (Drains d (M.hw w.old) (M.seen w.old) false (M.hw w.new) (M.seen w.new)) (λ t. (t.spent ≡ false) × (t.device ≡ d) × Drains d (M.hw w.old) (M.seen w.old) true (M.hw w.new) (M.seen w.new)) }
+        ensures asked { Asked1 (M.hw w.old) (M.hw w.new) }
     {
         if w.drain(d) {
             Some(Forgotten {

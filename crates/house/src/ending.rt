@@ -45,10 +45,10 @@ fn unregister(room: &mut [u64], frames: u32, who: u32, v: u32) -> bool
 
 // Unmaps every place of `who` that shows registers: those are of its own devices.
 fn unmap_registers<M: Machine>(w: &mut M, room: &mut [u64], frames: u32, who: u32)
-    requires soon { 1024 ≤ (M.Machine.hw w.old).left }
+    requires soon { 1024 ≤ (M.hw w.old).left }
     requires consistent { Consistent frames room.old }
     requires program { who < 32 }
-    ensures hid { Hid who (λ v. shows_some (place_of room.old who v)) (M.Machine.hw w.old) (M.Machine.seen w.old) 1024 (M.Machine.hw w.new) (M.Machine.seen w.new) }
+    ensures hid { Hid who (λ v. shows_some (place_of room.old who v)) (M.hw w.old) (M.seen w.old) 1024 (M.hw w.new) (M.seen w.new) }
     ensures view { view_of frames room.new ≡ bared who (view_of frames room.old) }
     ensures consistent { Consistent frames room.new }
 {
@@ -61,11 +61,11 @@ fn unmap_registers<M: Machine>(w: &mut M, room: &mut [u64], frames: u32, who: u3
 
 // If `who` has d, d leaves frame 0 and is asked once to be forgotten; says whether nothing of it is left to wait for.
 fn close_held<M: Machine>(w: &mut M, room: &mut [u64], frames: u32, who: u32, d: u32) -> bool
-    requires soon { (2 ≤ (M.Machine.hw w.old).left) × (0 < (M.Machine.hw w.old).frames) }
+    requires soon { (2 ≤ (M.hw w.old).left) × (0 < (M.hw w.old).frames) }
     requires consistent { Consistent frames room.old }
-    requires device { (who < 32) × ((d < 32) × (d < (M.Machine.hw w.old).devices)) }
+    requires device { (who < 32) × ((d < 32) × (d < (M.hw w.old).devices)) }
     requires hidden { owner_is who (device_of room.old d) ≡ true → (a b : ℕ) → place_of room.old a b ≢ Registers d }
-    ensures closed { ClosedOne (owner_is who (device_of room.old d)) who d (view_of frames room.old) (M.Machine.hw w.old) (M.Machine.seen w.old) (view_of frames room.new) result (M.Machine.hw w.new) (M.Machine.seen w.new) }
+    ensures closed { ClosedOne (owner_is who (device_of room.old d)) who d (view_of frames room.old) (M.hw w.old) (M.seen w.old) (view_of frames room.new) result (M.hw w.new) (M.seen w.new) }
     ensures consistent { Consistent frames room.new }
 {
     if !has_device(room, who, d) {
@@ -77,11 +77,11 @@ fn close_held<M: Machine>(w: &mut M, room: &mut [u64], frames: u32, who: u32, d:
 
 // Every device of `who` leaves frame 0 and is asked once to be forgotten, upwards, also after a no; says whether all were.
 fn close_all<M: Machine>(w: &mut M, room: &mut [u64], frames: u32, devices: u32, who: u32) -> bool
-    requires soon { (64 ≤ (M.Machine.hw w.old).left) × (0 < (M.Machine.hw w.old).frames) }
+    requires soon { (64 ≤ (M.hw w.old).left) × (0 < (M.hw w.old).frames) }
     requires consistent { Consistent frames room.old }
-    requires devices { (who < 32) × ((devices ≤ 32) × (devices ≡ (M.Machine.hw w.old).devices)) }
+    requires devices { (who < 32) × ((devices ≤ 32) × (devices ≡ (M.hw w.old).devices)) }
     requires hidden { (a b d : ℕ) → place_of room.old a b ≡ Registers d → owner_is who (device_of room.old d) ≢ true }
-    ensures closed { ClosedSoFar (λ d. owner_is who (device_of room.old d)) who (view_of frames room.old) (M.Machine.hw w.old) (M.Machine.seen w.old) devices (view_of frames room.new) result (M.Machine.hw w.new) (M.Machine.seen w.new) }
+    ensures closed { ClosedSoFar (λ d. owner_is who (device_of room.old d)) who (view_of frames room.old) (M.hw w.old) (M.seen w.old) devices (view_of frames room.new) result (M.hw w.new) (M.seen w.new) }
     ensures consistent { Consistent frames room.new }
 {
     let mut all = true;
@@ -94,10 +94,10 @@ fn close_all<M: Machine>(w: &mut M, room: &mut [u64], frames: u32, devices: u32,
 
 // Unmaps every place of `who`, and its pages become idle.
 fn unmap_pages<M: Machine>(w: &mut M, room: &mut [u64], frames: u32, who: u32)
-    requires soon { count (λ v. shows_any (place_of room.old who v)) 1024 ≤ (M.Machine.hw w.old).left }
+    requires soon { count (λ v. shows_any (place_of room.old who v)) 1024 ≤ (M.hw w.old).left }
     requires consistent { Consistent frames room.old }
     requires program { who < 32 }
-    ensures hid { Hid who (λ v. shows_any (place_of room.old who v)) (M.Machine.hw w.old) (M.Machine.seen w.old) 1024 (M.Machine.hw w.new) (M.Machine.seen w.new) }
+    ensures hid { Hid who (λ v. shows_any (place_of room.old who v)) (M.hw w.old) (M.seen w.old) 1024 (M.hw w.new) (M.seen w.new) }
     ensures view { view_of frames room.new ≡ ended who (view_of frames room.old) }
     ensures consistent { Consistent frames room.new }
 {
@@ -111,11 +111,11 @@ fn unmap_pages<M: Machine>(w: &mut M, room: &mut [u64], frames: u32, who: u32)
 // Each device of p is closed, by itself; if all of them were forgotten, all pages of p are idle and its places show nothing. It
 // takes effect after its last operation, when the IOMMU has answered for every device. Each place is unmapped once at most.
 pub fn end<M: Machine>(w: &mut M, room: &mut [u64], who: u32, p: u32) -> Result<Answer, Refusal>
-    requires soon { 2048 ≤ (M.Machine.hw w.old).left }
-    requires begins { Begins room.old who (Call.End p) (M.Machine.hw w.old) (M.Machine.seen w.old) }
-    ensures told { Keeps room.new Quiet (M.Machine.hw w.new) (Told who (Call.End p) (answer_of result) ∷ M.Machine.seen w.new) }
+    requires soon { 2048 ≤ (M.hw w.old).left }
+    requires begins { Begins room.old who (Call.End p) (M.hw w.old) (M.seen w.old) }
+    ensures told { Keeps room.new Quiet (M.hw w.new) (Told who (Call.End p) (answer_of result) ∷ M.seen w.new) }
     ensures accepted { NeverNo result }
-    ensures refused { IfRefused result ((room.new ≡ room.old) × (M.Machine.hw w.new ≡ M.Machine.hw w.old) × (M.Machine.seen w.new ≡ M.Machine.seen w.old)) }
+    ensures refused { IfRefused result ((room.new ≡ room.old) × (M.hw w.new ≡ M.hw w.old) × (M.seen w.new ≡ M.seen w.old)) }
 {
     plan_end(who, p)?;
     let frames = w.frames();

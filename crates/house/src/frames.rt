@@ -50,8 +50,8 @@ impl Taken {
 
     // Makes it noughts.
     pub fn clear<M: Machine>(&self, w: &mut M)
-        requires { (512 ≤ (M.Machine.hw w.old).left) × (self.now.frame < (M.Machine.hw w.old).frames) }
-        ensures { Cleared self.now.frame (M.Machine.hw w.old) (M.Machine.seen w.old) 512 (M.Machine.hw w.new) (M.Machine.seen w.new) }
+        requires { (512 ≤ (M.hw w.old).left) × (self.now.frame < (M.hw w.old).frames) }
+        ensures { Cleared self.now.frame (M.hw w.old) (M.seen w.old) 512 (M.hw w.new) (M.seen w.new) }
     {
         clear(w, self.frame);
     }
@@ -101,8 +101,8 @@ impl Taken {
 
 // Writes 0 into every word of a frame.
 pub fn clear<M: Machine>(w: &mut M, frame: u32)
-    requires { (512 ≤ (M.Machine.hw w.old).left) × (frame < (M.Machine.hw w.old).frames) }
-    ensures { Cleared frame (M.Machine.hw w.old) (M.Machine.seen w.old) 512 (M.Machine.hw w.new) (M.Machine.seen w.new) }
+    requires { (512 ≤ (M.hw w.old).left) × (frame < (M.hw w.old).frames) }
+    ensures { Cleared frame (M.hw w.old) (M.seen w.old) 512 (M.hw w.new) (M.seen w.new) }
 {
     for k in 0..512 {
         w.put(frame, k, 0);

@@ -134,11 +134,11 @@ pub trait Machine {
 pub trait World: Machine {
     // Programs run until one of them asks for something, or until there is no more to come.
     fn next(&mut self) -> Option<(u32, Call)>
-        ensures { Comes (hw self.old) (seen self.old) result (hw self.new) (seen self.new) };
+        ensures { Comes (Self.hw self.old) (Self.seen self.old) result (Self.hw self.new) (Self.seen self.new) };
     // Tells the answer. It may be told only if it and all that has happened before is explained: that is the promise.
     fn told(&mut self, who: u32, c: Call, a: Answer)
-        requires { Explained can (start_of (hw self.old)) (Told who c a ∷ seen self.old) }
-        ensures { (hw self.new ≡ hw self.old) × (seen self.new ≡ Told who c a ∷ seen self.old) };
+        requires { Explained can (start_of (Self.hw self.old)) (Told who c a ∷ Self.seen self.old) }
+        ensures { (Self.hw self.new ≡ Self.hw self.old) × (Self.seen self.new ≡ Told who c a ∷ Self.seen self.old) };
 }
 
 // What the keeper has beside the room that is lent to it.
@@ -150,11 +150,11 @@ pub struct Keeper {
 
 // Sets up the room, makes the device table empty, and only then starts the IOMMU.
 pub fn boot<M: Machine>(w: &mut M, room: &mut [u64]) -> Keeper
-    requires soon { 2048 ≤ (hw w.old).left }
-    requires starts { AtStart (hw w.old) }
-    requires unseen { seen w.old ≡ [] }
-    requires lent { room_of (hw w.old).frames ≤ length room.old }
-    ensures { Keeps room.new Quiet (hw w.new) (seen w.new) }
+    requires soon { 2048 ≤ (M.hw w.old).left }
+    requires starts { AtStart (M.hw w.old) }
+    requires unseen { M.seen w.old ≡ [] }
+    requires lent { room_of (M.hw w.old).frames ≤ length room.old }
+    ensures { Keeps room.new Quiet (M.hw w.new) (M.seen w.new) }
 {
     set_up(room, w.frames());
     clear(w, DEVICE_TABLE);
@@ -165,10 +165,10 @@ pub fn boot<M: Machine>(w: &mut M, room: &mut [u64]) -> Keeper
 impl Keeper {
     // Serves one call of a program. A refused call asks the machine for nothing that counts, and leaves all as it was.
     pub fn serve<M: Machine>(&mut self, w: &mut M, room: &mut [u64], who: u32, c: Call) -> Answer
-        requires soon { 2048 ≤ (hw w.old).left }
-        requires begins { Begins room.old who c (hw w.old) (seen w.old) }
-        ensures keeps { Keeps room.new Quiet (hw w.new) (Told who c result ∷ seen w.new) }
-        ensures refused { IfNo result ((room.new ≡ room.old) × (hw w.new ≡ hw w.old) × (seen w.new ≡ seen w.old) × (self.new.next ≡ self.old.next)) }
+        requires soon { 2048 ≤ (M.hw w.old).left }
+        requires begins { Begins room.old who c (M.hw w.old) (M.seen w.old) }
+        ensures keeps { Keeps room.new Quiet (M.hw w.new) (Told who c result ∷ M.seen w.new) }
+        ensures refused { IfNo result ((room.new ≡ room.old) × (M.hw w.new ≡ M.hw w.old) × (M.seen w.new ≡ M.seen w.old) × (self.new.next ≡ self.old.next)) }
     {
         match self.call(w, room, who, c) {
             Ok(a) => a,
@@ -184,10 +184,10 @@ impl Keeper {
         who: u32,
         c: Call,
     ) -> Result<Answer, Refusal>
-        requires soon { 2048 ≤ (hw w.old).left }
-        requires begins { Begins room.old who c (hw w.old) (seen w.old) }
-        ensures told { Keeps room.new Quiet (hw w.new) (Told who c (answer_of result) ∷ seen w.new) }
-        ensures refused { IfRefused result ((room.new ≡ room.old) × (hw w.new ≡ hw w.old) × (seen w.new ≡ seen w.old) × (self.new.next ≡ self.old.next)) }
+        requires soon { 2048 ≤ (M.hw w.old).left }
+        requires begins { Begins room.old who c (M.hw w.old) (M.seen w.old) }
+        ensures told { Keeps room.new Quiet (M.hw w.new) (Told who c (answer_of result) ∷ M.seen w.new) }
+        ensures refused { IfRefused result ((room.new ≡ room.old) × (M.hw w.new ≡ M.hw w.old) × (M.seen w.new ≡ M.seen w.old) × (self.new.next ≡ self.old.next)) }
         ensures accepted { NeverNo result }
     {
         match c {
@@ -213,9 +213,9 @@ impl Keeper {
 
 // The main theorem: whatever programs ask and do, and whatever devices and the IOMMU do, what is told is explained.
 pub fn rounds<W: Machine + World>(w: &mut W, room: &mut [u64], turns: u64)
-    requires starts { AtStart (hw w.old) }
-    requires unseen { seen w.old ≡ [] }
-    requires lent { room_of (hw w.old).frames ≤ length room.old }
+    requires starts { AtStart (W.hw w.old) }
+    requires unseen { W.seen w.old ≡ [] }
+    requires lent { room_of (W.hw w.old).frames ≤ length room.old }
 {
     let mut k = boot(w, room);
     let mut t: u64 = 0;

@@ -138,11 +138,11 @@ impl Mapping {
 
 // The lower table is there: the entry goes into it, and with that the page is lent.
 fn enter<M: Machine>(w: &mut M, room: &mut [u64], who: u32, v: u32, f: u32, table: u32, at: Mapping)
-    requires soon { 2048 ≤ (M.Machine.hw w.old).left }
-    requires begins { Begins room.old who (Call.Lend v at.device at.page at.writes) (M.Machine.hw w.old) (M.Machine.seen w.old) }
-    requires lendable { Lendable (view_of (M.Machine.hw w.old).frames room.old) (M.Machine.hw w.old).devices who v f at.device at.page }
+    requires soon { 2048 ≤ (M.hw w.old).left }
+    requires begins { Begins room.old who (Call.Lend v at.device at.page at.writes) (M.hw w.old) (M.seen w.old) }
+    requires lendable { Lendable (view_of (M.hw w.old).frames room.old) (M.hw w.old).devices who v f at.device at.page }
     requires table { low_of room.old at.device (at.page / 512) ≡ suc table }
-    ensures { Keeps room.new Quiet (M.Machine.hw w.new) (Told who (Call.Lend v at.device at.page at.writes) Answer.Done ∷ M.Machine.seen w.new) }
+    ensures { Keeps room.new Quiet (M.hw w.new) (Told who (Call.Lend v at.device at.page at.writes) Answer.Done ∷ M.seen w.new) }
 {
     let frames = w.frames();
     write(w, table, at.word(), at.entry(f));
@@ -160,11 +160,11 @@ fn link<M: Machine>(
     taken: Taken,
     at: Mapping,
 ) -> u32
-    requires soon { 2048 ≤ (M.Machine.hw w.old).left }
-    requires begins { Begins room.old who (Call.Lend v at.device at.page at.writes) (M.Machine.hw w.old) (M.Machine.seen w.old) }
-    requires lendable { Lendable (view_of (M.Machine.hw w.old).frames room.old) (M.Machine.hw w.old).devices who v f at.device at.page }
-    requires missing { (low_of room.old at.device (at.page / 512) ≡ 0) × ((taken.frame < (M.Machine.hw w.old).frames) × (use_of room.old taken.frame ≡ Idle)) }
-    ensures { Keeps room.new Quiet (M.Machine.hw w.new) (Told who (Call.Lend v at.device at.page at.writes) Answer.Done ∷ M.Machine.seen w.new) }
+    requires soon { 2048 ≤ (M.hw w.old).left }
+    requires begins { Begins room.old who (Call.Lend v at.device at.page at.writes) (M.hw w.old) (M.seen w.old) }
+    requires lendable { Lendable (view_of (M.hw w.old).frames room.old) (M.hw w.old).devices who v f at.device at.page }
+    requires missing { (low_of room.old at.device (at.page / 512) ≡ 0) × ((taken.frame < (M.hw w.old).frames) × (use_of room.old taken.frame ≡ Idle)) }
+    ensures { Keeps room.new Quiet (M.hw w.new) (Told who (Call.Lend v at.device at.page at.writes) Answer.Done ∷ M.seen w.new) }
 {
     let frames = w.frames();
     let upper = top_at(room, at.device);
@@ -185,11 +185,11 @@ pub fn lend<M: Machine>(
     v: u32,
     at: Mapping,
 ) -> Result<Answer, Refusal>
-    requires soon { 2048 ≤ (M.Machine.hw w.old).left }
-    requires begins { Begins room.old who (Call.Lend v at.device at.page at.writes) (M.Machine.hw w.old) (M.Machine.seen w.old) }
-    ensures told { Keeps room.new Quiet (M.Machine.hw w.new) (Told who (Call.Lend v at.device at.page at.writes) (answer_of result) ∷ M.Machine.seen w.new) }
+    requires soon { 2048 ≤ (M.hw w.old).left }
+    requires begins { Begins room.old who (Call.Lend v at.device at.page at.writes) (M.hw w.old) (M.seen w.old) }
+    ensures told { Keeps room.new Quiet (M.hw w.new) (Told who (Call.Lend v at.device at.page at.writes) (answer_of result) ∷ M.seen w.new) }
     ensures accepted { NeverNo result }
-    ensures refused { IfRefused result ((room.new ≡ room.old) × (M.Machine.hw w.new ≡ M.Machine.hw w.old) × (M.Machine.seen w.new ≡ M.Machine.seen w.old) × (next.new ≡ next.old)) }
+    ensures refused { IfRefused result ((room.new ≡ room.old) × (M.hw w.new ≡ M.hw w.old) × (M.seen w.new ≡ M.seen w.old) × (next.new ≡ next.old)) }
 {
     let frames = w.frames();
     let devices = w.devices();

@@ -7,18 +7,18 @@ use crate::Machine;
 
 // Writes one word of a frame.
 pub fn write<M: Machine>(w: &mut M, frame: u32, word: u32, x: u64)
-    requires { (0 < (M.Machine.hw w.old).left) × ((frame < (M.Machine.hw w.old).frames) × (word < 512)) }
-    ensures steps { Steps (counted (with_mem (put frame word x (M.Machine.hw w.old).mem) (M.Machine.hw w.old))) (M.Machine.seen w.old) (M.Machine.hw w.new) (M.Machine.seen w.new) }
-    ensures asked { Asked1 (M.Machine.hw w.old) (M.Machine.hw w.new) }
+    requires { (0 < (M.hw w.old).left) × ((frame < (M.hw w.old).frames) × (word < 512)) }
+    ensures steps { Steps (counted (with_mem (put frame word x (M.hw w.old).mem) (M.hw w.old))) (M.seen w.old) (M.hw w.new) (M.seen w.new) }
+    ensures asked { Asked1 (M.hw w.old) (M.hw w.new) }
 {
     w.put(frame, word, x);
 }
 
 // Unmaps a place of a program's address space.
 pub fn hide<M: Machine>(w: &mut M, who: u32, v: u32)
-    requires { (0 < (M.Machine.hw w.old).left) × ((who < 32) × (v < 1024)) }
-    ensures steps { Steps (counted (shows who v Nothing (M.Machine.hw w.old))) (M.Machine.seen w.old) (M.Machine.hw w.new) (M.Machine.seen w.new) }
-    ensures asked { Asked1 (M.Machine.hw w.old) (M.Machine.hw w.new) }
+    requires { (0 < (M.hw w.old).left) × ((who < 32) × (v < 1024)) }
+    ensures steps { Steps (counted (shows who v Nothing (M.hw w.old))) (M.seen w.old) (M.hw w.new) (M.seen w.new) }
+    ensures asked { Asked1 (M.hw w.old) (M.hw w.new) }
 {
     w.hide(who, v);
 }

@@ -35,11 +35,11 @@ pub fn get<M: Machine>(
     who: u32,
     v: u32,
 ) -> Result<Answer, Refusal>
-    requires soon { 2048 ≤ (M.Machine.hw w.old).left }
-    requires begins { Begins room.old who (Call.Get v) (M.Machine.hw w.old) (M.Machine.seen w.old) }
-    ensures told { Keeps room.new Quiet (M.Machine.hw w.new) (Told who (Call.Get v) (answer_of result) ∷ M.Machine.seen w.new) }
+    requires soon { 2048 ≤ (M.hw w.old).left }
+    requires begins { Begins room.old who (Call.Get v) (M.hw w.old) (M.seen w.old) }
+    ensures told { Keeps room.new Quiet (M.hw w.new) (Told who (Call.Get v) (answer_of result) ∷ M.seen w.new) }
     ensures accepted { NeverNo result }
-    ensures refused { IfRefused result ((room.new ≡ room.old) × (M.Machine.hw w.new ≡ M.Machine.hw w.old) × (M.Machine.seen w.new ≡ M.Machine.seen w.old) × (next.new ≡ next.old)) }
+    ensures refused { IfRefused result ((room.new ≡ room.old) × (M.hw w.new ≡ M.hw w.old) × (M.seen w.new ≡ M.seen w.old) × (next.new ≡ next.old)) }
 {
     let frames = w.frames();
     let taken = plan_get(room, frames, *next, who, v)?;
@@ -63,11 +63,11 @@ fn plan_free(room: &[u64], frames: u32, who: u32, v: u32) -> Result<u32, Refusal
 
 // One's page at v, which is home, becomes idle. It takes effect when the place shows nothing.
 pub fn free<M: Machine>(w: &mut M, room: &mut [u64], who: u32, v: u32) -> Result<Answer, Refusal>
-    requires soon { 2048 ≤ (M.Machine.hw w.old).left }
-    requires begins { Begins room.old who (Call.Free v) (M.Machine.hw w.old) (M.Machine.seen w.old) }
-    ensures told { Keeps room.new Quiet (M.Machine.hw w.new) (Told who (Call.Free v) (answer_of result) ∷ M.Machine.seen w.new) }
+    requires soon { 2048 ≤ (M.hw w.old).left }
+    requires begins { Begins room.old who (Call.Free v) (M.hw w.old) (M.seen w.old) }
+    ensures told { Keeps room.new Quiet (M.hw w.new) (Told who (Call.Free v) (answer_of result) ∷ M.seen w.new) }
     ensures accepted { NeverNo result }
-    ensures refused { IfRefused result ((room.new ≡ room.old) × (M.Machine.hw w.new ≡ M.Machine.hw w.old) × (M.Machine.seen w.new ≡ M.Machine.seen w.old)) }
+    ensures refused { IfRefused result ((room.new ≡ room.old) × (M.hw w.new ≡ M.hw w.old) × (M.seen w.new ≡ M.seen w.old)) }
 {
     let frames = w.frames();
     let f = plan_free(room, frames, who, v)?;
@@ -100,11 +100,11 @@ pub fn give<M: Machine>(
     to: u32,
     at: u32,
 ) -> Result<Answer, Refusal>
-    requires soon { 2048 ≤ (M.Machine.hw w.old).left }
-    requires begins { Begins room.old who (Call.Give v to at) (M.Machine.hw w.old) (M.Machine.seen w.old) }
-    ensures told { Keeps room.new Quiet (M.Machine.hw w.new) (Told who (Call.Give v to at) (answer_of result) ∷ M.Machine.seen w.new) }
+    requires soon { 2048 ≤ (M.hw w.old).left }
+    requires begins { Begins room.old who (Call.Give v to at) (M.hw w.old) (M.seen w.old) }
+    ensures told { Keeps room.new Quiet (M.hw w.new) (Told who (Call.Give v to at) (answer_of result) ∷ M.seen w.new) }
     ensures accepted { NeverNo result }
-    ensures refused { IfRefused result ((room.new ≡ room.old) × (M.Machine.hw w.new ≡ M.Machine.hw w.old) × (M.Machine.seen w.new ≡ M.Machine.seen w.old)) }
+    ensures refused { IfRefused result ((room.new ≡ room.old) × (M.hw w.new ≡ M.hw w.old) × (M.seen w.new ≡ M.seen w.old)) }
 {
     let frames = w.frames();
     let f = plan_give(room, frames, who, v, to, at)?;

@@ -121,9 +121,9 @@ fn bring_home(room: &mut [u64], frames: u32, who: u32, v: u32, m: MappedPage, fo
 
 // Clears the entry of the page, and nothing else.
 fn unmap<M: Machine>(w: &mut M, m: MappedPage)
-    requires { (0 < (M.Machine.hw w.old).left) × (m.table < (M.Machine.hw w.old).frames) }
-    ensures steps { Steps (counted (with_mem (put m.table (m.to.page % 512) 0 (M.Machine.hw w.old).mem) (M.Machine.hw w.old))) (M.Machine.seen w.old) (M.Machine.hw w.new) (M.Machine.seen w.new) }
-    ensures asked { Asked1 (M.Machine.hw w.old) (M.Machine.hw w.new) }
+    requires { (0 < (M.hw w.old).left) × (m.table < (M.hw w.old).frames) }
+    ensures steps { Steps (counted (with_mem (put m.table (m.to.page % 512) 0 (M.hw w.old).mem) (M.hw w.old))) (M.seen w.old) (M.hw w.new) (M.seen w.new) }
+    ensures asked { Asked1 (M.hw w.old) (M.hw w.new) }
 {
     write(w, m.table, m.to.page % 512, 0);
 }
@@ -137,10 +137,10 @@ fn settle<M: Machine>(
     v: u32,
     m: MappedPage,
 ) -> Answer
-    requires asks { (0 < (M.Machine.hw w.old).left) × (m.to.device < (M.Machine.hw w.old).devices) }
+    requires asks { (0 < (M.hw w.old).left) × (m.to.device < (M.hw w.old).devices) }
     requires consistent { Consistent frames room.old }
     requires page { (who < 32) × ((v < 1024) × (place_of room.old who v ≡ Page m.frame)) }
-    ensures { Settled frames who v m.frame m.to.device room.old room.new (M.Machine.hw w.old) (M.Machine.seen w.old) (M.Machine.hw w.new) (M.Machine.seen w.new) result }
+    ensures { Settled frames who v m.frame m.to.device room.old room.new (M.hw w.old) (M.seen w.old) (M.hw w.new) (M.seen w.new) result }
 {
     match Forgotten::ask(w, m.to.device) {
         Some(forgotten) => {
@@ -154,11 +154,11 @@ fn settle<M: Machine>(
 // One's page at v, which a device has, comes home. Its entry is cleared, and the IOMMU is asked once to forget the device: the call
 // takes effect at the moment of that answer, and if it was no, the page is leaving still.
 pub fn recall<M: Machine>(w: &mut M, room: &mut [u64], who: u32, v: u32) -> Result<Answer, Refusal>
-    requires soon { 2048 ≤ (M.Machine.hw w.old).left }
-    requires begins { Begins room.old who (Call.Recall v) (M.Machine.hw w.old) (M.Machine.seen w.old) }
-    ensures told { Keeps room.new Quiet (M.Machine.hw w.new) (Told who (Call.Recall v) (answer_of result) ∷ M.Machine.seen w.new) }
+    requires soon { 2048 ≤ (M.hw w.old).left }
+    requires begins { Begins room.old who (Call.Recall v) (M.hw w.old) (M.seen w.old) }
+    ensures told { Keeps room.new Quiet (M.hw w.new) (Told who (Call.Recall v) (answer_of result) ∷ M.seen w.new) }
     ensures accepted { NeverNo result }
-    ensures refused { IfRefused result ((room.new ≡ room.old) × (M.Machine.hw w.new ≡ M.Machine.hw w.old) × (M.Machine.seen w.new ≡ M.Machine.seen w.old)) }
+    ensures refused { IfRefused result ((room.new ≡ room.old) × (M.hw w.new ≡ M.hw w.old) × (M.seen w.new ≡ M.seen w.old)) }
 {
     let frames = w.frames();
     let m = plan_recall(room, frames, who, v)?;

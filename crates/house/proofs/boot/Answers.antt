@@ -3,4 +3,4 @@ use Rattle.house.proofs.boot.Goals as goal
 
 pub returns : goal.returns
 returns g c =
-    keeps_booted c.requires.starts c.requires.unseen c.frames.ensures c.set-up.ensures.consistent c.set-up.ensures.view c.clear.ensures c.start.ensures
+    keeps_booted c.requires.starts c.requires.unseen c.frames.ensures c.set_up.ensures.consistent c.set_up.ensures.view c.clear.ensures c.start.ensures

@@ -21,20 +21,20 @@ pub hide-requires : goal.hide-requires
 hide-requires g c = (still_left 1024 c.loop-v.invariant.2 c.requires.soon (omega arith), (c.requires.device.0, omega arith))
 
 -- the places up to this one, with the machine as it is then
-abbrev so_far : (g : given.Over) (c : goal.Joined-hide-registers g) → g.row.M.Denot → Type 0
+abbrev so_far : (g : given.Over) (c : goal.Joined-hide_registers g) → g.row.M.Denot → Type 0
 so_far g c x =
     Hid c.args.who (λ (v : ℕ). shows_registers c.args.d (place_of c.args.room.now c.args.who v)) (g.M.Machine.hw c.args.w.now) (g.M.Machine.seen c.args.w.now) (c.loop-v.v + 1) (g.M.Machine.hw x) (g.M.Machine.seen x)
 
 pub loop-v-preserved : goal.loop-v-preserved
 loop-v-preserved g c =
     let seen = looked_at c.args.frames c.args.who c.args.d c.loop-v.v c.args.room.now c.loop-v.room c.loop-v.invariant.1 in
-    let more = hidden_more c.args.who c.args.d c.loop-v.v (view_of c.args.frames c.args.room.now) (view_of c.args.frames c.loop-v.room) (view_of c.args.frames c.hide-registers.new.room)
-    c.loop-v.invariant.1 c.hide-registers.ensures.view in (
-      c.hide-registers.ensures.consistent,
+    let more = hidden_more c.args.who c.args.d c.loop-v.v (view_of c.args.frames c.args.room.now) (view_of c.args.frames c.loop-v.room) (view_of c.args.frames c.hide_registers.new.room)
+    c.loop-v.invariant.1 c.hide_registers.ensures.view in (
+      c.hide_registers.ensures.consistent,
       more,
-      elim c.if-hide-registers.branch [
-        | goal.then-hide-registers w ↦ subst (so_far g c) (sym w.w-is) (hid_more c.loop-v.invariant.2 (sym (w.if-hide-registers.ensures.answer ∙ seen)) (still_left 1024 c.loop-v.invariant.2 c.requires.soon (omega arith)) w.hide.ensures.steps)
-        | goal.else-hide-registers w ↦ subst (so_far g c) (sym w.w-is) (hid_skip c.loop-v.invariant.2 (sym (w.if-hide-registers.ensures.answer ∙ seen)))
+      elim c.if-hide_registers.branch [
+        | goal.then-hide_registers w ↦ subst (so_far g c) (sym w.w-is) (hid_more c.loop-v.invariant.2 (sym (w.if-hide_registers.ensures.answer ∙ seen)) (still_left 1024 c.loop-v.invariant.2 c.requires.soon (omega arith)) w.hide.ensures.steps)
+        | goal.else-hide_registers w ↦ subst (so_far g c) (sym w.w-is) (hid_skip c.loop-v.invariant.2 (sym (w.if-hide_registers.ensures.answer ∙ seen)))
       ],
     )
 

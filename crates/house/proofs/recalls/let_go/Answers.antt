@@ -4,8 +4,8 @@ use Rattle.ledger.specs.Uses.{loan_in, is_at}
 use Rattle.house.proofs.Mappings.{away_ok, away_alone, frame_seen}
 use Rattle.house.proofs.recalls.let_go.Goals as goal
 
-pub set-loan-requires : goal.set-loan-requires
-set-loan-requires c =
+pub set_loan-requires : goal.set_loan-requires
+set_loan-requires c =
     let a = c.requires.page.1.1 in
     let k = c.requires.consistent.coherent in
     record {
