@@ -39,13 +39,14 @@ pub fn play<S: Script>(board: &mut Board, room: &mut [u64], script: &mut S) -> b
 {
     let mut sim = Sim {
         board,
-        script,
+        script: &mut *script,
         ended: Ended::Not,
     };
     rounds(&mut sim, room, u64::MAX);
-    match sim.ended {
+    let ended = sim.ended;
+    match ended {
         Ended::New => true,
-        Ended::Full => play_over(sim.script),
+        Ended::Full => play_over(script),
         Ended::Script | Ended::Not => false,
     }
 }

@@ -12,10 +12,10 @@ returns-then-slot-ge512 c = none _ _
 
 pub returns-then-entry-frames : goal.returns-then-entry-frames
 returns-then-entry-frames c =
-    leaf_goes (parts_of c.args.self.now) c.at-m.result c.word-of.result _ _ c.in-Some.k c.word-entry.result _ c.at-m.ensures c.in-Some.ensures.0 c.word-entry.ensures (omega (arith, c.in-Some.ensures.1, c.word-entry.ensures)) c.word-of.ensures.0 c.word-of.ensures.1.0 c.word-of.ensures.1.1 c.learn.ensures.list
+    leaf_goes (parts_of c.args.self.now) c.at-m.result c.word_of.result _ _ c.in-Some.k c.word-entry.result _ c.at-m.ensures c.in-Some.ensures.0 c.word-entry.ensures (omega (arith, c.in-Some.ensures.1, c.word-entry.ensures)) c.word_of.ensures.0 c.word_of.ensures.1.0 c.word_of.ensures.1.1 c.learn.ensures.list
 
 pub returns-else-entry-frames : goal.returns-else-entry-frames
 returns-else-entry-frames c = none _ _
 
-pub returns-in-default : goal.returns-in-default
-returns-in-default c = none _ _
+pub returns-in_default : goal.returns-in_default
+returns-in_default c = none _ _

@@ -15,4 +15,4 @@ returns-then-top-frames c = none _ _
 
 pub returns : goal.returns
 returns c =
-    up_goes (parts_of c.args.self.now) c.word-of.result _ _ c.below-d.result c.word-top.result _ c.if-not-self.false c.below-d.ensures.bound c.word-top.ensures (omega arith) c.word-of.ensures.0 c.word-of.ensures.1.1 c.learn.ensures.list
+    up_goes (parts_of c.args.self.now) c.word_of.result _ _ c.below-d.result c.word-top.result _ c.if-not-self.false c.below-d.ensures.bound c.word-top.ensures (omega arith) c.word_of.ensures.0 c.word_of.ensures.1.1 c.learn.ensures.list

@@ -9,4 +9,4 @@ returns-then-n-eq0 c = none _ _
 
 pub returns : goal.returns
 returns c =
-    miss_goes (parts_of c.args.self.now) (parts_of c.miss-at.new.self) c.below-d.result c.below-p.result _ c.miss-at.result c.below-d.ensures.bound c.below-p.ensures.bound c.miss-at.ensures
+    miss_goes (parts_of c.args.self.now) (parts_of c.miss_at.new.self) c.below-d.result c.below-p.result _ c.miss_at.result c.below-d.ensures.bound c.below-p.ensures.bound c.miss_at.ensures

@@ -11,7 +11,7 @@ loop-preserved c = steps_then c.loop.invariant c.trick.ensures
 
 pub returns-after-loop : goal.returns-after-loop
 returns-after-loop c =
-    record { goes = c.loop.invariant; quiet = λ e. absurd (let t = c.if-is-seeded.ensures in let n : ◌≡◌ {A = ℕ} 0 1 = cc in omega arith) }
+    record { goes = c.loop.invariant; quiet = λ e. absurd (let t = c.if-is_seeded.ensures in let n : ◌≡◌ {A = ℕ} 0 1 = cc in omega arith) }
 
-pub returns-else-is-seeded : goal.returns-else-is-seeded
-returns-else-is-seeded c = record { goes = none _ _; quiet = λ _. refl }
+pub returns-else-is_seeded : goal.returns-else-is_seeded
+returns-else-is_seeded c = record { goes = none _ _; quiet = λ _. refl }

@@ -8,4 +8,4 @@ pub returns-then-n-eq0 : goal.returns-then-n-eq0
 returns-then-n-eq0 c = none _ _
 
 pub returns : goal.returns
-returns c = take_goes (parts_of c.args.self.now) (parts_of c.take-at.new.self) c.at-l.result c.below-k.result c.take-at.result c.at-l.ensures c.below-k.ensures.bound c.take-at.ensures
+returns c = take_goes (parts_of c.args.self.now) (parts_of c.take_at.new.self) c.at-l.result c.below-k.result c.take_at.result c.at-l.ensures c.below-k.ensures.bound c.take_at.ensures

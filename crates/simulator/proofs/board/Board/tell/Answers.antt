@@ -10,8 +10,8 @@ add-requires c =
     let p = parts_of c.args.self.now in
     omega (arith, told_owed can (start_of (hw_of p)) (seen_of p) c.args.who c.args.c c.args.a c.requires.0 c.requires.1 c.requires.2, c.args.self.now.room)
 
-pub invariant-of-self : goal.invariant-of-self
-invariant-of-self c =
+pub invariant_of-self : goal.invariant_of-self
+invariant_of-self c =
     let p = parts_of c.args.self.now in
     let o = told_owed can (start_of (hw_of p)) (seen_of p) c.args.who c.args.c c.args.a c.requires.0 c.requires.1 c.requires.2 in
-    (c.args.self.now.words, (c.args.self.now.frames, (c.args.self.now.places, (c.args.self.now.few, (c.args.self.now.uppers, (c.args.self.now.lowers, (c.args.self.now.pages, (c.args.self.now.accesses, (room_told c.told.result p.notes _ c.args.who c.args.c c.args.a c.args.self.now.log.count _ c.args.self.now.left _ c.told.ensures c.add.ensures.list c.add.ensures.count o (omega (arith, c.args.self.now.room)), tt)))))))))
+    record { words = c.args.self.now.words; frames = c.args.self.now.frames; places = c.args.self.now.places; few = c.args.self.now.few; uppers = c.args.self.now.uppers; lowers = c.args.self.now.lowers; pages = c.args.self.now.pages; accesses = c.args.self.now.accesses; room = room_told c.told.result p.notes _ c.args.who c.args.c c.args.a c.args.self.now.log.count _ c.args.self.now.left _ c.told.ensures c.add.ensures.list c.add.ensures.count o (omega (arith, c.args.self.now.room)) }

@@ -9,18 +9,18 @@ pub returns-then-d-self : goal.returns-then-d-self
 returns-then-d-self c =
     let z = beyond_range (parts_of c.args.self.now) (line.Write c.args.d c.args.p c.args.word c.args.x) in record { ran = z.0; heard = z.1 }
 
-pub returns-then-miss-at : goal.returns-then-miss-at
-returns-then-miss-at c =
-    let z = write_missed (parts_of c.args.self.now) (parts_of c.miss-at.new.self) c.args.d c.args.p c.args.word c.args.x (omega arith) (omega arith) c.if-miss-at.ensures in record { ran = z.0; heard = z.1 }
+pub returns-then-miss_at : goal.returns-then-miss_at
+returns-then-miss_at c =
+    let z = write_missed (parts_of c.args.self.now) (parts_of c.miss_at.new.self) c.args.d c.args.p c.args.word c.args.x (omega arith) (omega arith) c.if-miss_at.ensures in record { ran = z.0; heard = z.1 }
 
-pub returns-then-put-at : goal.returns-then-put-at
-returns-then-put-at c =
-    let z = write_put (parts_of c.args.self.now) (parts_of c.miss-at.new.self) (parts_of c.put-at.new.self) c.args.d c.args.p c.args.word c.in-Some.w.top c.in-Some.w.low c.in-Some.w.entry c.args.x (omega arith) (omega arith) (omega arith) c.ranges.x.fits c.if-miss-at.ensures c.in-Some.ensures.0 c.if-put-at.ensures in record { ran = z.0; heard = z.1 }
+pub returns-then-put_at : goal.returns-then-put_at
+returns-then-put_at c =
+    let z = write_put (parts_of c.args.self.now) (parts_of c.miss_at.new.self) (parts_of c.put_at.new.self) c.args.d c.args.p c.args.word c.in-Some.w.top c.in-Some.w.low c.in-Some.w.entry c.args.x (omega arith) (omega arith) (omega arith) c.ranges.x.fits c.if-miss_at.ensures c.in-Some.ensures.0 c.if-put_at.ensures in record { ran = z.0; heard = z.1 }
 
-pub returns-else-put-at : goal.returns-else-put-at
-returns-else-put-at c =
-    let z = both_same (parts_of c.args.self.now) (parts_of c.miss-at.new.self) (parts_of c.put-at.new.self) (line.Write c.args.d c.args.p c.args.word c.args.x) c.if-miss-at.ensures c.if-put-at.ensures in record { ran = z.0; heard = z.1 }
+pub returns-else-put_at : goal.returns-else-put_at
+returns-else-put_at c =
+    let z = both_same (parts_of c.args.self.now) (parts_of c.miss_at.new.self) (parts_of c.put_at.new.self) (line.Write c.args.d c.args.p c.args.word c.args.x) c.if-miss_at.ensures c.if-put_at.ensures in record { ran = z.0; heard = z.1 }
 
-pub returns-in-default : goal.returns-in-default
-returns-in-default c =
-    let z = both_same (parts_of c.args.self.now) (parts_of c.miss-at.new.self) (parts_of c.miss-at.new.self) (line.Write c.args.d c.args.p c.args.word c.args.x) c.if-miss-at.ensures (refl, refl) in record { ran = z.0; heard = z.1 }
+pub returns-in_default : goal.returns-in_default
+returns-in_default c =
+    let z = both_same (parts_of c.args.self.now) (parts_of c.miss_at.new.self) (parts_of c.miss_at.new.self) (line.Write c.args.d c.args.p c.args.word c.args.x) c.if-miss_at.ensures (refl, refl) in record { ran = z.0; heard = z.1 }

@@ -9,4 +9,4 @@ returns-then-n-eq0 c = none _ _
 
 pub returns : goal.returns
 returns c =
-    put_by_goes (parts_of c.args.self.now) (parts_of c.put-at.new.self) c.at-l.result c.below-k.result c.word-x.result c.put-at.result c.at-l.ensures c.below-k.ensures.bound c.word-x.type-inv c.put-at.ensures
+    put_by_goes (parts_of c.args.self.now) (parts_of c.put_at.new.self) c.at-l.result c.below-k.result c.word-x.result c.put_at.result c.at-l.ensures c.below-k.ensures.bound c.word-x.type_inv c.put_at.ensures

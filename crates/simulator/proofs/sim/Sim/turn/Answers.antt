@@ -10,13 +10,13 @@ pub returns-in-Says : goal.returns-in-Says
 returns-in-Says g c = steps_run c.play.ensures.goes c.in-Says.ensures.board.0
 
 pub returns-in-Quiet : goal.returns-in-Quiet
-returns-in-Quiet g c = steps_run c.play.ensures.goes (same_ran (parts_of c.play.new.self) (parts_of c.play-line.new.self.board.now) c.in-Quiet.ensures.board)
+returns-in-Quiet g c = steps_run c.play.ensures.goes (same_ran (parts_of c.play.new.self) (parts_of c.play_line.new.self.board.now) c.in-Quiet.ensures.board)
 
 pub returns-in-Asks : goal.returns-in-Asks
 returns-in-Asks g c = ran_comes (steps_run c.play.ensures.goes (rest _ _)) c.in-Asks.ensures.board.0
 
 pub returns-in-Full : goal.returns-in-Full
-returns-in-Full g c = steps_run c.play.ensures.goes (same_ran (parts_of c.play.new.self) (parts_of c.play-line.new.self.board.now) c.in-Full.ensures.board)
+returns-in-Full g c = steps_run c.play.ensures.goes (same_ran (parts_of c.play.new.self) (parts_of c.play_line.new.self.board.now) c.in-Full.ensures.board)
 
 pub returns-in-Bad : goal.returns-in-Bad
 returns-in-Bad g c = steps_run c.play.ensures.goes (rest _ _)
