@@ -51,7 +51,7 @@ impl Script for Loads {
 }
 
 #[test]
-fn a_full_log_ends_well() -> Result<(), Fail> {
+fn a_full_log_ends_well(rt: HostRuntime) -> Result<(), Fail> {
     let mut memory = [0; 32768];
     let mut spaces = [0; 32768];
     let mut ups = [0; 8];
@@ -78,9 +78,9 @@ fn a_full_log_ends_well() -> Result<(), Fail> {
         &mut room,
         &mut loads,
     )?;
-    check(again).note("another machine is wanted")?;
-    check(loads.faults == 51).note("51 events leave no room for a call")?;
-    check(loads.overs == 29).note("each further line is answered so")?;
+    assert!(rt; again, "another machine is wanted");
+    assert!(rt; loads.faults == 51, "51 events leave no room for a call");
+    assert!(rt; loads.overs == 29, "each further line is answered so");
     let again = play_on(
         &mut memory,
         &mut spaces,
@@ -93,6 +93,7 @@ fn a_full_log_ends_well() -> Result<(), Fail> {
         &mut room,
         &mut loads,
     )?;
-    check(!again).note("the script is at its end")?;
-    check(loads.faults == 56).note("the next machine has an empty log")
+    assert!(rt; !again, "the script is at its end");
+    assert!(rt; loads.faults == 56, "the next machine has an empty log");
+    Ok(())
 }

@@ -73,7 +73,7 @@ impl Counts {
 
 // The words that memory starts with look like tables, so that everything is there to be found.
 #[test]
-fn each_trick_is_played() -> Result<(), Fail> {
+fn each_trick_is_played(rt: HostRuntime) -> Result<(), Fail> {
     let mut memory = [0; 32768];
     let mut spaces = [0; 32768];
     let mut ups = [0; 8];
@@ -107,10 +107,14 @@ fn each_trick_is_played() -> Result<(), Fail> {
         counts.count(before, board.census(), latest);
     }
     let [up, mid, leaf] = counts.learnt;
-    check(up > 0 && mid > 0 && leaf > 0).note("learns at three levels")?;
+    assert!(rt; up > 0 && mid > 0 && leaf > 0, "learns at three levels");
     let [up, mid, leaf] = counts.forgotten;
-    check(up > 0 && mid > 0 && leaf > 0).note("forgets at three levels")?;
-    check(counts.begun > 0 && counts.given_up > 0).note("lets through, and gives up")?;
-    check(counts.read > 0 && counts.written > 0).note("reads, and writes")?;
-    check(counts.missed > 0).note("misses")
+    assert!(rt; up > 0 && mid > 0 && leaf > 0, "forgets at three levels");
+    assert!(rt;
+        counts.begun > 0 && counts.given_up > 0,
+        "lets through, and gives up"
+    );
+    assert!(rt; counts.read > 0 && counts.written > 0, "reads, and writes");
+    assert!(rt; counts.missed > 0, "misses");
+    Ok(())
 }
