@@ -14,7 +14,8 @@ import re
 import sys
 
 WORD = r"[A-Za-z_][A-Za-z0-9_'-]*"
-DECLARED = re.compile(r"^(\s*)((?:(?:pub|abbrev|unfoldable) )*)(" + WORD + r")((?: " + WORD + r")*) : (.*)$")
+DECLARED = re.compile(r"^(\s*)((?:(?:pub|abbrev|unfoldable) )*)(" + WORD + r")((?: " + WORD + r")*) :(?: (.*))?$")
+CLAUSE = re.compile(r"^\s*" + WORD + r"((?: [^=:→λ]+)?) =(?: |$)")
 # names that would fall together with another: the definition keeps the plain name, and the lemma about it or the hypothesis takes this one
 OTHERWISE = {
     "all-drained": "drained_of_all",
@@ -86,7 +87,7 @@ def snake(name):
 
 def is_goal(path, name, kind):
     """Whether this line answers a goal of a function, whose name the checker makes."""
-    return kind.startswith("goal.") or kind.startswith("need.")
+    return (kind or "").startswith(("goal.", "need."))
 
 
 def declared():
@@ -102,6 +103,12 @@ def declared():
                         goals.add(name)
                     else:
                         own.setdefault(name, path)
+        # names that a clause binds on its left
+        for line in text.splitlines():
+            m = CLAUSE.match(line)
+            if m and not line.lstrip().startswith("--"):
+                for name in re.findall(r"(?<![.\w'-])" + WORD + r"(?![.\w])", m.group(1)):
+                    own.setdefault(name, path)
         # names that a let, a λ or a binder brings in
         for m in re.finditer(r"\blet (" + WORD + r")\b|[({](" + WORD + r"(?: " + WORD + r")*) : ", text):
             for name in (m.group(1) or m.group(2) or "").split():
