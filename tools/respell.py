@@ -90,6 +90,15 @@ def is_goal(path, name, kind):
     return (kind or "").startswith(("goal.", "need."))
 
 
+def imported():
+    """The names that files take from the libraries."""
+    names = set()
+    for path in antt_files():
+        for m in re.finditer(r"^use (?:Rattle\.std|mathlib|lib|borrow|native|Prim)[^{\n]*\{([^}]*)\}", open(path, encoding="utf-8").read(), re.M):
+            names.update(n.split(" as ")[-1] for n in re.split(r", *", m.group(1)))
+    return names
+
+
 def declared():
     """The names of the repository's own, each with a file that declares it."""
     own, goals = {}, set()
@@ -118,8 +127,11 @@ def declared():
 
 def main(argv):
     own, goals = declared()
+    library = imported()
     turned = {}
     for name in own:
+        if name in library:
+            continue
         if name in OTHERWISE:
             turned[name] = OTHERWISE[name]
         elif name[0].islower() and name not in goals and (re.search(r"[A-Z]", name) or "-" in name):
@@ -134,12 +146,6 @@ def main(argv):
     for new, olds in sorted(by_new.items()):
         if len(olds) > 1:
             print("fell together:", new, "from", ", ".join(f"{o} ({own[o]})" for o in sorted(olds)))
-    for path in antt_files():
-        for m in re.finditer(r"^use (?:Rattle\.std|mathlib|lib|borrow|native|Prim)[^{\n]*\{([^}]*)\}", open(path, encoding="utf-8").read(), re.M):
-            for name in re.split(r", *", m.group(1)):
-                name = name.split(" as ")[-1]
-                if name in turned or name in turned.values():
-                    print("the library's too:", name, path)
     token = re.compile(WORD)
 
     # a function of src/ may have the name of a lemma: only files of specs/ and proofs/ have lemmas

@@ -16,8 +16,8 @@ use Rattle.house.specs.Sound.{Tables, View, view_of, Held, SoundAt, Sound, Words
 use Rattle.house.specs.Kept.{Kept, tables_in, shown_meant}
 use Rattle.house.specs.Serving.{Fits, Progress, nothing_cut, Holds, Keeps, Begins}
 use Rattle.house.proofs.Rooms.{Inside, inside_room, shown_right}
-use Rattle.house.proofs.Steps.{steps-keep, no_page_home, house_home, shape_same}
-use Rattle.house.proofs.Programs.{comes_some, runs-keep}
+use Rattle.house.proofs.Steps.{steps_keep, no_page_home, house_home, shape_same}
+use Rattle.house.proofs.Programs.{comes_some, runs_keep}
 
 pub start_same : (h i : Hw) → Same h i → start_of i ≡ start_of h
 start_same h i q = λ x. Meaning.at_start (q.frames x) (q.devices x) (q.group x) (q.driver x) 1
@@ -41,7 +41,7 @@ fits_alike h j q f = record {
 -- devices and the unit go on by themselves: all holds with the words that devices have written
 pub holds_steps : {v : ledger.View} {p : Progress} {n : Now} {h j : Hw} {es gs : List Event} → Holds v p n h es → Steps h es j gs → Holds v p n j gs
 holds_steps {v} {p} {n} {h} {j} {es} {gs} a m =
-    let q = steps-keep a.sound a.words a.shape a.run m in
+    let q = steps_keep a.sound a.words a.shape a.run m in
     let root = λ (d : ℕ). (q.quiet 0 d (house_home (a.state.what 0) a.sound.house)).0 in
     record {
       fits = fits_alike h j (same_alike q.same) a.fits;
@@ -74,7 +74,7 @@ pub keeps_runs : {room : List ℕ} {h j : Hw} {es gs : List Event} → Keeps roo
 keeps_runs {room} {h} {j} {es} {gs} k m =
     let a = k.holds in
     let inside = subst (λ (z : ℕ). Inside z (ledger.view_of h.frames room)) (sym a.shape.frames_are) (inside_room h.frames room) in
-    let q = runs-keep a.sound a.words a.shape (shown_right a.state k.tidy.coherent a.kept inside h.space a.shown) a.run m in
+    let q = runs_keep a.sound a.words a.shape (shown_right a.state k.tidy.coherent a.kept inside h.space a.shown) a.run m in
     let root = λ (d : ℕ). q.quiet 0 d (house_no_page (a.state.what 0) a.sound.house) in
     moved h.frames q.same.frames k.tidy k.yeses k.noes (record {
       fits = fits_alike h j (same_alike q.same) a.fits;

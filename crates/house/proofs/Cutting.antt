@@ -53,7 +53,7 @@ cut_nothing false t x f h = f h
 
 pub cut_root : {v : ledger.View} {p : Progress} {n : Now} {h : Hw} {es : List Event} (d : ℕ) → Unlent v d → T (not (is_in d p.yeses)) → Holds v p n h es → Holds v (cutting d p) n (counted (with_mem (put 0 d 0 h.mem) h)) es
 unfolding is_page
-cut_root {v} {p} {n} {h} {es} d un no-yes a = record {
+cut_root {v} {p} {n} {h} {es} d un no_yes a = record {
   fits = a.fits;
   state = a.state;
   run = a.run;
@@ -68,5 +68,5 @@ cut_root {v} {p} {n} {h} {es} d un no-yes a = record {
   roots = λ e c q. cut_too (eqb e d) (p.cut e) (h.mem 0 e) (suc (v.top e)) (a.roots e c q);
   severed = λ e t. cut_nothing (eqb e d) (p.cut e) (h.mem 0 e) (a.severed e) t;
   forgot = λ e t i.
-      ⊎_elim (λ (z : T (eqb e d)). absurd (T_not (is_in d p.yeses) no-yes (subst (λ (y : ℕ). T (is_in y p.yeses)) (eqb→eq e d z) i))) (λ (z : T (p.cut e)). a.forgot e z i) (either (eqb e d) (p.cut e) t);
+      ⊎_elim (λ (z : T (eqb e d)). absurd (T_not (is_in d p.yeses) no_yes (subst (λ (y : ℕ). T (is_in y p.yeses)) (eqb→eq e d z) i))) (λ (z : T (p.cut e)). a.forgot e z i) (either (eqb e d) (p.cut e) t);
 }

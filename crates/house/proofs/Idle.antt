@@ -11,7 +11,7 @@ use Rattle.house.specs.Sound as sound
 use Rattle.house.specs.Kept.{use_meant}
 use Rattle.house.specs.Operations.{Clears}
 use Rattle.house.specs.Serving.{Progress, Holds}
-use Rattle.house.proofs.Steps.{steps-keep}
+use Rattle.house.proofs.Steps.{steps_keep}
 use Rattle.house.proofs.Facts.{put_elsewhere, put_here}
 use Rattle.house.proofs.Uses.{mem_keeps}
 use Rattle.house.proofs.PageWords.{words_put}
@@ -24,7 +24,7 @@ idle_meant a f e = a.kept.uses_are f ∙ ap use_meant e
 
 -- memory that no device reaches stays through any steps
 pub steps_quiet : {v : ledger.View} {p : Progress} {n : Now} {h j : Hw} {es gs : List Event} (a : Holds v p n h es) → Steps h es j gs → (f k : ℕ) → T (is_home (loan_of (a.state.what f))) → j.mem f k ≡ h.mem f k
-steps_quiet a m f k t = ((steps-keep a.sound a.words a.shape a.run m).quiet f k t).0
+steps_quiet a m f k t = ((steps_keep a.sound a.words a.shape a.run m).quiet f k t).0
 
 idle_not_house : {v : ledger.View} {p : Progress} {n : Now} {h : Hw} {es : List Event} (a : Holds v p n h es) (f : ℕ) → v.used f ≡ used.Idle → 0 ≡ f → ⊥
 idle_not_house a f e z =

@@ -31,10 +31,10 @@ pub ran_then :
 ran_then a b =
     record { word = b.word; run = b.run; sound = b.sound; words = b.words; same = same_then a.same b.same; quiet = λ f k q. b.quiet f k q ∙ a.quiet f k q }
 
-ran-none :
+ran_none :
     {can : Call → Bool} {start : State} {t : Tables} {s : State} {es : List Event} (h : Hw) →
     SoundAt t (view_of s) h → Words (view_of s) s.word h.mem → Run can start es s Quiet → Ran can start t s h h es
-ran-none {s = s} h sound words run = record { word = s.word; run = run; sound = sound; words = words; same = same_none h; quiet = λ f k q. refl }
+ran_none {s = s} h sound words run = record { word = s.word; run = run; sound = sound; words = words; same = same_none h; quiet = λ f k q. refl }
 
 -- somebody's page at a place
 page_at : (c v : ℕ) (u : Use) → T (is_of c v u) → (w : ℕ) × (x : ℕ) × (l : Loan) × (u ≡ Of w x l)
@@ -90,22 +90,22 @@ shown_is s space c v x shown a b e = subst (λ (y : Shown). ShowsRight s c v y) 
 pub shown_same : (s : State) (h j : Hw) → ShownAt s h.space → Same h j → ShownAt s j.space
 shown_same s h j shown q = subst⁻¹ (λ (y : ℕ → ℕ → Shown). ShownAt s y) q.space shown
 
-pub runs-keep :
+pub runs_keep :
     {can : Call → Bool} {start : State} {t : Tables} {s : State} {h : Hw} {es : List Event} {j : Hw} {gs : List Event} →
     SoundAt t (view_of s) h → Words (view_of s) s.word h.mem → Shape s h → ShownAt s h.space → Run can start es s Quiet → Runs h es j gs → Ran can start t s h j gs
-runs-keep sound words shape shown run (Runs.rest h es) = ran-none h sound words run
-runs-keep {s = s} sound words shape shown run (Runs.device {h} {i} {j} {es} {fs} {gs} st onward) =
+runs_keep sound words shape shown run (Runs.rest h es) = ran_none h sound words run
+runs_keep {s = s} sound words shape shown run (Runs.device {h} {i} {j} {es} {fs} {gs} st onward) =
     let a = steady_ran (step_keeps sound words shape run st) in
-    ran_then a (runs-keep {s = set_word a.word s} a.sound a.words (shape_same shape a.same) (shown_same s h i shown a.same) a.run onward)
-runs-keep {can} {start} {s = s} sound words shape shown run (Runs.loads {h} {j} {es} {gs} c v f k a b d e onward) =
-    runs-keep sound words shape shown (loaded can start s es c v f k h.mem words run d (shown_is s h.space c v (Frame f) shown a b e)) onward
-runs-keep {can} {start} {t} {s} sound words shape shown run (Runs.stores {h} {j} {es} {gs} c v f k x a b d y e onward) =
+    ran_then a (runs_keep {s = set_word a.word s} a.sound a.words (shape_same shape a.same) (shown_same s h i shown a.same) a.run onward)
+runs_keep {can} {start} {s = s} sound words shape shown run (Runs.loads {h} {j} {es} {gs} c v f k a b d e onward) =
+    runs_keep sound words shape shown (loaded can start s es c v f k h.mem words run d (shown_is s h.space c v (Frame f) shown a b e)) onward
+runs_keep {can} {start} {t} {s} sound words shape shown run (Runs.stores {h} {j} {es} {gs} c v f k x a b d y e onward) =
     let r = stored can start t s es h c v f k x sound words run (shown_is s h.space c v (Frame f) shown a b e) in
-    ran_then r (runs-keep {s = set_word r.word s} r.sound r.words shape shown r.run onward)
-runs-keep {can} {start} {s = s} sound words shape shown run (Runs.pokes {h} {j} {es} {gs} c v d a b e onward) =
-    runs-keep sound words shape shown (poked can start s es c v d run (shown_is s h.space c v (Registers d) shown a b e)) onward
-runs-keep {can} {start} {s = s} sound words shape shown run (Runs.faults {h} {j} {es} {gs} c v a b e onward) =
-    runs-keep sound words shape shown (faulted can start s es c v run (shown_is s h.space c v Nothing shown a b e)) onward
+    ran_then r (runs_keep {s = set_word r.word s} r.sound r.words shape shown r.run onward)
+runs_keep {can} {start} {s = s} sound words shape shown run (Runs.pokes {h} {j} {es} {gs} c v d a b e onward) =
+    runs_keep sound words shape shown (poked can start s es c v d run (shown_is s h.space c v (Registers d) shown a b e)) onward
+runs_keep {can} {start} {s = s} sound words shape shown run (Runs.faults {h} {j} {es} {gs} c v a b e onward) =
+    runs_keep sound words shape shown (faulted can start s es c v run (shown_is s h.space c v Nothing shown a b e)) onward
 
 -- A CALL COMES, OR ALL IS OVER
 pub record Came (h : Hw) (es : List Event) (who : ℕ) (c : Call) (j : Hw) (gs : List Event) : Type 0 where
@@ -125,9 +125,9 @@ comes_none (Comes.over r) = r
 same_allowed : (n : ℕ) {h j : Hw} → Same h j → Same (allowed n h) (allowed n j)
 same_allowed n a = record { frames = a.frames; devices = a.devices; group = a.group; driver = a.driver; space = a.space; live = a.live; left = refl }
 
-pub comes-keep :
+pub comes_keep :
     {can : Call → Bool} {start : State} {t : Tables} {s : State} {h : Hw} {es : List Event} {who : ℕ} {c : Call} {j : Hw} {gs : List Event} →
     SoundAt t (view_of s) h → Words (view_of s) s.word h.mem → Shape s h → ShownAt s h.space → Run can start es s Quiet → Comes h es (Some (who, c)) j gs → Begun can start t s h who c j gs
-comes-keep {s = s} sound words shape shown run (Comes.comes who c b r) =
-    let a = runs-keep sound words shape shown run r in
+comes_keep {s = s} sound words shape shown run (Comes.comes who c b r) =
+    let a = runs_keep sound words shape shown run r in
     record { small = b; word = a.word; run = Run.asks who c a.run; sound = a.sound; words = a.words; same = same_allowed 2048 a.same; quiet = a.quiet }

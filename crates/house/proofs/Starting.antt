@@ -18,7 +18,7 @@ use Rattle.house.specs.Sound.{Tables, View, view_of, Held, SoundAt, Sound, Words
 use Rattle.house.specs.Kept.{Kept, KeptIn, tables_in, use_meant, dev_meant, regs_meant, shown_meant}
 use Rattle.house.specs.Operations.{Clears, Cleared}
 use Rattle.house.specs.Serving.{Fits, nothing_cut, Holds, Keeps}
-use Rattle.house.proofs.Steps.{steps-keep, house_home, steps_same, same_then}
+use Rattle.house.proofs.Steps.{steps_keep, house_home, steps_same, same_then}
 use Rattle.house.proofs.Between.{start_same, holds_steps, moved}
 
 -- no table is anywhere
@@ -137,7 +137,7 @@ off_clears {h} a Clears.none = record {
 }
 off_clears {h} a (Clears.more {n} {i} {j} {fs} {gs} c m) =
     let o = off_clears a c in
-    let q = steps-keep {s = set_word o.word (start_of h)} (sound_off h i.mem (put 0 n 0 i.mem) i.live i.ups i.mids i.leaves i.flying o.off o.sound)
+    let q = steps_keep {s = set_word o.word (start_of h)} (sound_off h i.mem (put 0 n 0 i.mem) i.live i.ups i.mids i.leaves i.flying o.off o.sound)
     (λ f c u k l lt w. absurd (never_page f c u l w)) (record { frames_are = sym o.frames; devices_are = sym o.devices; group_is = sym o.group; driver_is = sym o.driver }) o.run m in
     record {
       word = q.word;

@@ -194,10 +194,10 @@ still :
     SoundAt t (view_of s) h → Words (view_of s) s.word h.mem → Run can start es s n → Steady can start t s n h h es
 still h sound words run = learnt h h.ups h.mids h.leaves h.flying words run sound (λ d z g. g)
 
-took-run :
+took_run :
     (can : Call → Bool) (start : State) (s : State) (n : Now) (es : List Event) (d p f k : ℕ) (mem : ℕ → ℕ → ℕ) →
     Words (view_of s) s.word mem → Run can start es s n → f < s.frames → T (reaches d p false (loan_of (s.what f))) → k < 512 → Run can start (TookFrom d p f k (mem f k) ∷ es) s n
-took-run can start s n es d p f k mem words run a r b =
+took_run can start s n es d p f k mem words run a r b =
     let u = reached_page d p false (s.what f) r in
     subst (λ (x : ℕ). Run can start (TookFrom d p f k x ∷ es) s n) (words f u.0 u.1 k u.2 a u.3 b) (Run.took d p f k run a r)
 
@@ -268,7 +268,7 @@ step_keeps {h = h} sound words shape run (Step.fails _ k) =
     (λ c z g. (g.0, g.1, g.2, no_leaf_drop c k h.flying g.3))
 step_keeps {can = can} {start = start} {s = s} {n = n} {h = h} {es = es} sound words shape run (Step.takes _ l k m b) =
     let good = sound.flying_good l m in
-    still h sound words (took-run can start s n es l.dev l.page (frame_in l.entry) k h.mem words run good.frame good.reads b)
+    still h sound words (took_run can start s n es l.dev l.page (frame_in l.entry) k h.mem words run good.frame good.reads b)
 step_keeps {can = can} {start = start} {t = t} {s = s} {n = n} {h = h} {es = es} sound words shape run (Step.puts _ l k x m b c w) =
     let good = sound.flying_good l m in
     put_in can start t s n es h l.dev l.page (frame_in l.entry) k x sound words run good.frame (good.writes w)
@@ -293,13 +293,13 @@ steady_then {s = s} house a b =
 pub shape_same : {n m : ℕ} {g d : ℕ → ℕ} {h j : Hw} → Shaped n m g d h.frames h.devices h.group h.driver → Same h j → Shaped n m g d j.frames j.devices j.group j.driver
 shape_same p q = record { frames_are = p.frames_are ∙ sym q.frames; devices_are = p.devices_are ∙ sym q.devices; group_is = p.group_is ∙ sym q.group; driver_is = p.driver_is ∙ sym q.driver }
 
-pub steps-keep :
+pub steps_keep :
     {can : Call → Bool} {start : State} {t : Tables} {s : State} {n : Now} {h : Hw} {es : List Event} {j : Hw} {gs : List Event} →
     SoundAt t (view_of s) h → Words (view_of s) s.word h.mem → Shape s h → Run can start es s n → Steps h es j gs → Steady can start t s n h j gs
-steps-keep sound words shape run (Steps.none h es) = still h sound words run
-steps-keep {s = s} sound words shape run (Steps.more {h} {i} {j} {es} {fs} {gs} st rest) =
+steps_keep sound words shape run (Steps.none h es) = still h sound words run
+steps_keep {s = s} sound words shape run (Steps.more {h} {i} {j} {es} {fs} {gs} st rest) =
     let a = step_keeps sound words shape run st in
-    steady_then sound.house a (steps-keep {s = set_word a.word s} a.sound a.words (shape_same shape a.same) a.run rest)
+    steady_then sound.house a (steps_keep {s = set_word a.word s} a.sound a.words (shape_same shape a.same) a.run rest)
 
 -- ASKED TO FORGET
 -- steps, the moment at which it is said, and steps again
@@ -318,10 +318,10 @@ pub drained : {can : Call → Bool} {start : State} {s : State} {n : Now} {es : 
 drained d b run = Run.drains d b run
 
 -- the answer noted between what came before and what comes after
-told-then :
+told_then :
     {can : Call → Bool} {start : State} {t : Tables} {s : State} {n : Now} {h i j : Hw} {fs gs : List Event} (x y : List ℕ) (e : Event) → s.what 0 ≡ House → (a : Steady can start t s n h i fs) →
     Run can start (e ∷ fs) (set_drains x y (set_word a.word s)) n → Steady can start t (set_drains x y (set_word a.word s)) n (counted i) j gs → Steady can start t (set_drains x y s) n (counted h) j gs
-told-then {can} {start} {t} {s} {n} {h} {i} {j} {fs} {gs} x y e house a run b = steady_then {s = set_drains x y s} house noted b
+told_then {can} {start} {t} {s} {n} {h} {i} {j} {fs} {gs} x y e house a run b = steady_then {s = set_drains x y s} house noted b
   where
     noted : Steady can start t (set_drains x y s) n (counted h) (counted i) (e ∷ fs)
     noted =
@@ -344,14 +344,14 @@ told-then {can} {start} {t} {s} {n} {h} {i} {j} {fs} {gs} x y e house a run b = 
               };
         }
 
-pub drain-keeps :
+pub drain_keeps :
     {can : Call → Bool} {start : State} {t : Tables} {s : State} {n : Now} {d : ℕ} {h : Hw} {es : List Event} {b : Bool} {j : Hw} {gs : List Event} →
     SoundAt t (view_of s) h → Words (view_of s) s.word h.mem → Shape s h → Run can start es s n → Drains d h es b j gs → Steady can start t (told_drain d b s) n (counted h) j gs
-drain-keeps {s = s} {d = d} sound words shape run (Drains.yes' before f after) =
-    let a = steps-keep sound words shape run before in
+drain_keeps {s = s} {d = d} sound words shape run (Drains.yes' before f after) =
+    let a = steps_keep sound words shape run before in
     let r = drained d true a.run in
-    told-then (d ∷ s.drained) s.undrained (Drained d true) sound.house a r (steps-keep {s = told_drain d true (set_word a.word s)} a.sound a.words (shape_same shape a.same) r after)
-drain-keeps {s = s} {d = d} sound words shape run (Drains.not_yet before after) =
-    let a = steps-keep sound words shape run before in
+    told_then (d ∷ s.drained) s.undrained (Drained d true) sound.house a r (steps_keep {s = told_drain d true (set_word a.word s)} a.sound a.words (shape_same shape a.same) r after)
+drain_keeps {s = s} {d = d} sound words shape run (Drains.not_yet before after) =
+    let a = steps_keep sound words shape run before in
     let r = drained d false a.run in
-    told-then s.drained (d ∷ s.undrained) (Drained d false) sound.house a r (steps-keep {s = told_drain d false (set_word a.word s)} a.sound a.words (shape_same shape a.same) r after)
+    told_then s.drained (d ∷ s.undrained) (Drained d false) sound.house a r (steps_keep {s = told_drain d false (set_word a.word s)} a.sound a.words (shape_same shape a.same) r after)

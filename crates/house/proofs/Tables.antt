@@ -118,7 +118,7 @@ module _ {t : Tables} {v : View} {mem : ℕ → ℕ → ℕ} {live : Bool} {ups 
   link_made : (f d i : ℕ) → f < v.frames → v.what f ≡ TableOf d → ((e : ℕ) → Held v e → t.top e ≡ f → ⊥) → ((e j : ℕ) → T (v.slots e j) → t.low e j ≡ f → ⊥) →
       Held v d → T (not (v.slots d i)) → ((k : ℕ) → k < 512 → (mem f k ≡ 0) ⊎ Good v d (512 * i + k) (mem f k)) →
       Sound (with_low d i f t) (with_slots (λ e j. v.slots e j || (eqb e d && eqb j i)) v) (put (t.top d) i (suc f) mem) live ups mids leaves flying
-  link_made f d i bound is offTop offLow opened free words =
+  link_made f d i bound is off_top off_low opened free words =
       record {
         house = s.house;
         root = λ l a b. subst (λ (x : ℕ). (x ≡ 0) ⊎ ((x ≡ suc (t.top a)) × T (not (is_shut (v.dev a))))) (sym (root a)) (s.root l a b);
@@ -131,11 +131,11 @@ module _ {t : Tables} {v : View} {mem : ℕ → ℕ → ℕ} {live : Bool} {ups 
             (λ n. subst (λ (x : ℕ). (x < v.frames) × (v.what x ≡ TableOf a)) (sym (new a k n)) (bound, is ∙ ap TableOf (sym n.0)))
             (split a k h);
         apart = λ a k h z.
-            ⊎_elim (λ o. s.apart a k o (sym (old a k o) ∙ z)) (λ n. offTop d opened (ap t.top (sym n.0) ∙ sym z ∙ new a k n)) (split a k h);
+            ⊎_elim (λ o. s.apart a k o (sym (old a k o) ∙ z)) (λ n. off_top d opened (ap t.top (sym n.0) ∙ sym z ∙ new a k n)) (split a k h);
         distinct = λ a k n h g z.
             ⊎_elim
-            (λ o. ⊎_elim (λ q. s.distinct a k n o q (sym (old a k o) ∙ z ∙ old a n q)) (λ q. absurd (offLow a k o (sym (old a k o) ∙ z ∙ new a n q))) (split a n g))
-            (λ o. ⊎_elim (λ q. absurd (offLow a n q (sym (old a n q) ∙ sym z ∙ new a k o))) (λ q. o.1 ∙ sym q.1) (split a n g))
+            (λ o. ⊎_elim (λ q. s.distinct a k n o q (sym (old a k o) ∙ z ∙ old a n q)) (λ q. absurd (off_low a k o (sym (old a k o) ∙ z ∙ new a n q))) (split a n g))
+            (λ o. ⊎_elim (λ q. absurd (off_low a n q (sym (old a n q) ∙ sym z ∙ new a k o))) (λ q. o.1 ∙ sym q.1) (split a n g))
             (split a k h);
         entries = λ a k n h b c.
             ⊎_elim
@@ -188,7 +188,7 @@ module _ {t : Tables} {v : View} {mem : ℕ → ℕ → ℕ} {live : Bool} {ups 
       low a k n h = put_elsewhere (t.top d) i (suc f) mem (t.low a k) n (low_not_top a k d h opened)
 
       own : (n : ℕ) → mem2 f n ≡ mem f n
-      own n = put_elsewhere (t.top d) i (suc f) mem f n (λ z. offTop d opened (sym z))
+      own n = put_elsewhere (t.top d) i (suc f) mem f n (λ z. off_top d opened (sym z))
 
       word : (a k n : ℕ) → n < 512 → (a ≡ d) × (k ≡ i) → (mem f n ≡ 0) ⊎ Good v a (512 * k + n) (mem f n)
       word a k n b o = subst (λ (x : ℕ). (mem f n ≡ 0) ⊎ Good v x (512 * k + n) (mem f n)) (sym o.0) (subst (λ (x : ℕ). (mem f n ≡ 0) ⊎ Good v d (512 * x + n) (mem f n)) (sym o.1) (words n b))
