@@ -1,4 +1,6 @@
 // The room: who has which frame, place, table and device, in words that are lent. It knows nothing of the machine.
+#![tactic(auto)]
+
 pub mod closing;
 pub mod devices;
 pub mod frames;

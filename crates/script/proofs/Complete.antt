@@ -1,10 +1,10 @@
 -- What writes a line is read as that line.
-use Rattle.std.proofs.Common.{◌≡◌, ℕ, Bool, true, false, cond, List, [], ◌∷◌, Some, None, codes, Option, sym, refl, ap, ◌∙◌, subst}
+use Rattle.std.proofs.Common.{◌≡◌, ℕ, Bool, List, [], ◌∷◌, Some, codes, Option, refl, ap, ◌∙◌}
 use Rattle.std.specs.Option.{option_map}
-use Rattle.script.specs.Decimal.{index_of, exact_of}
+use Rattle.script.specs.Decimal.{index_of}
 use Rattle.script.specs.Language.{Part, text, index, exact, Written, access, request_parts, parts_of}
-use Rattle.script.specs.Parser.{mode_of, give_of, regs_of, lend_of, simple_of, request_of, load_of, store_of, program_of, read_of, write_of, way_of, access_of, keep_of, kept_way, kept_of, machine_of, head_of, sentence_of}
-use Rattle.script.specs.Parts.{and_then, first, later, at_end, last_of}
+use Rattle.script.specs.Parser.{give_of, regs_of, lend_of, simple_of, load_of, store_of, program_of, read_of, write_of, way_of, access_of, keep_of, kept_way, kept_of, head_of, sentence_of}
+use Rattle.script.specs.Parts.{and_then, later, last_of}
 use Rattle.script.proofs.Steps.{index_step, text_step, index_last, exact_last, mode_last, none_left}
 use Rattle.script.specs.declared.forms.Line.{Line}
 use Rattle.script.specs.declared.forms.Line.TheVariants.{Call, Store, Load, Read, Write, Keep, Kept, Refuse, Seed, New}

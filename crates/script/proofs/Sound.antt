@@ -5,7 +5,7 @@ use Rattle.std.specs.Str.{bytes_eq}
 use Rattle.std.proofs.lemmas.Slice.Eq.{bytes_eq-Decides}
 use Rattle.script.specs.Decimal.{index_of, exact_of}
 use Rattle.script.specs.Language.{Part, text, index, exact, Written, access, request_parts, parts_of}
-use Rattle.script.specs.Parser.{mode_of, give_of, regs_of, lend_of, simple_of, request_of, load_of, store_of, program_of, read_of, write_of, way_of, access_of, keep_of, kept_way, kept_of, machine_of, head_of, sentence_of}
+use Rattle.script.specs.Parser.{mode_of, give_of, regs_of, lend_of, simple_of, request_of, load_of, store_of, program_of, way_of, access_of, keep_of, kept_way, kept_of, machine_of, head_of, sentence_of}
 use Rattle.script.specs.Parts.{and_then, first, later, at_end, last_of}
 use Rattle.script.specs.declared.forms.Line.{Line}
 use Rattle.script.specs.declared.forms.Line.TheVariants.{Call, Store, Load, Read, Write, Keep, Kept, Refuse, Seed, New}

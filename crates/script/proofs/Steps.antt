@@ -1,9 +1,9 @@
 -- Words against the parts of a line, from the left.
-use Rattle.std.proofs.Common.{◌≡◌, ℕ, Bool, true, false, cond, List, [], ◌∷◌, Some, None, codes, Option, sym, refl, ap, ◌∙◌, subst, arith}
+use Rattle.std.proofs.Common.{◌≡◌, ℕ, Bool, true, false, List, [], ◌∷◌, Some, refl, ap}
 use Rattle.script.specs.Decimal.{index_of, exact_of}
-use Rattle.script.specs.Language.{Part, text, index, exact, Fits, Written, access}
+use Rattle.script.specs.Language.{Part, text, index, exact, Written, access}
 use Rattle.script.specs.Parser.{mode_of}
-use Rattle.script.specs.Parts.{and_then, first, later, at_end, last_of}
+use Rattle.script.specs.Parts.{first, later, at_end, last_of}
 
 pub index_step : (n : ℕ) (ps : List Part) (ws : List (List ℕ)) → Written (index n ∷ ps) ws → (first index_of ws ≡ Some n) × Written ps (later ws)
 index_step n ps [] h = absurd h

@@ -1,5 +1,5 @@
 -- Numbers as the code has them: exact below 2^64, else only known to be too large.
-use Rattle.std.specs.Prelude.{ℕ, ◌-◌, ◌^◌, min, Bool, cond, Some, None, Option, nat_lt}
+use Rattle.std.specs.Prelude.{ℕ, ◌-◌, ◌^◌, min, cond, Some, None, Option, nat_lt}
 use Rattle.script.specs.declared.numbers.Number.{Number}
 use Rattle.script.specs.declared.numbers.Number.TheVariants.{Exact, TooLarge}
 

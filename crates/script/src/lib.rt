@@ -1,5 +1,7 @@
 // The language of scripts: its lines as a type, read from bytes, and what came of a line as a type, written as text.
 // Nothing here knows of the machine that a script is played on.
+#![tactic(auto)]
+
 mod forms;
 mod input;
 mod numbers;

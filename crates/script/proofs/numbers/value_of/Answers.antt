@@ -1,4 +1,4 @@
-use Rattle.std.proofs.Common.{◌≡◌, ℕ, ◌+◌, ◌-◌, ◌*◌, ◌^◌, ◌<◌, ◌≤◌, get_or, drop, sym, ap, ◌∙◌, arith}
+use Rattle.std.proofs.Common.{ℕ, ◌+◌, ◌*◌, drop, sym, ap, ◌∙◌, arith}
 use Rattle.script.specs.Decimal.{value_after}
 use Rattle.script.proofs.Digits.{a_digit, value_step, too_large, exactly}
 use Rattle.script.proofs.numbers.value_of.Goals as goal

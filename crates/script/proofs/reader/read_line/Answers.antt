@@ -1,4 +1,4 @@
-use Rattle.std.proofs.Common.{◌≡◌, ℕ, ◌≤◌, sym, ap, ◌∙◌, arith}
+use Rattle.std.proofs.Common.{sym, ap, ◌∙◌, arith}
 use Rattle.script.specs.Parser.{sentence_of}
 use Rattle.script.specs.Spaces.{words_of}
 use Rattle.script.proofs.Complete.{complete}

@@ -1,4 +1,4 @@
-use Rattle.std.proofs.Common.{◌≡◌, ℕ, List, ◌∷◌, Option, sym, ap, ◌∙◌}
+use Rattle.std.proofs.Common.{ℕ, ◌∷◌, Option, sym, ap, ◌∙◌}
 use Rattle.script.specs.Decimal.{number_of}
 use Rattle.script.specs.Left.{left}
 use Rattle.script.specs.Parser.{head_of, sentence_of, program_of}
