@@ -1,4 +1,6 @@
 // Plays a script from standard input on machines in memory, and prints what came of each line.
+#![tactic(auto)]
+
 mod console;
 
 use console::Console;

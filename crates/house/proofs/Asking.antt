@@ -1,5 +1,5 @@
 -- One operation takes one from the count, and leaves the machine's shape.
-use Rattle.std.proofs.Common.{◌≡◌, ℕ, ◌+◌, ◌-◌, ◌<◌, Bool, List, sym, ◌∙◌, arith}
+use Rattle.std.proofs.Common.{ℕ, ◌<◌, Bool, List, ◌∙◌, arith}
 use Rattle.house.specs.Event.{Event}
 use Rattle.house.specs.Machine.{Hw, Shown, Steps, Drains, counted, with_mem, shows}
 use Rattle.house.specs.Operations.{Asked1}

@@ -1,22 +1,19 @@
 -- What holds between calls: at the start, while programs run, and after an answer.
-use Rattle.std.proofs.Common.{◌≡◌, ℕ, zero, suc, ◌+◌, ◌*◌, ◌<◌, ◌≤◌, Bool, true, false, cond, not, ◌||◌, T, eqb, ltb, ◌⊎◌, List, [], ◌∷◌, length, Some, None, sym, refl, ap, ◌∙◌, subst, inl, inr, arith, lit≤}
-use mathlib.Core.List.{Memᴰ}
+use Rattle.std.proofs.Common.{◌≡◌, ℕ, ◌<◌, ◌≤◌, Bool, not, T, List, [], ◌∷◌, Some, sym, refl, ap, ◌∙◌, subst, lit≤}
 use Rattle.ledger.specs.View as ledger
 use Rattle.ledger.specs.Consistent.{Consistent}
 use Rattle.house.specs.declared.Call.{Call}
 use Rattle.house.specs.declared.Answer.{Answer}
-use Rattle.house.specs.declared.Answer.TheVariants.{Done, Later, No}
+use Rattle.house.specs.declared.Answer.TheVariants.{Done, No}
 use Rattle.house.specs.Event.{Event, Asked, Told}
-use Rattle.house.specs.Machine.{Hw, Shown, Nothing, Frame, Registers, AtStart, Comes, Runs, Steps, Up, Mid, Leaf, allowed}
+use Rattle.house.specs.Machine.{Hw, Shown, Comes, Runs, Steps, allowed}
 use Rattle.house.specs.Meaning
 use Rattle.house.specs.Meaning.{State, Use, House, Idle, TableOf, Of, Loan, Lent, is_of, any, has, taken, Now, Quiet, Under, Over, Run, set_drains, set_word}
-use Rattle.house.specs.Promise.{can, room_of, start_of}
-use Rattle.house.specs.Sound
-use Rattle.house.specs.Sound.{Tables, View, view_of, Held, SoundAt, Sound, Words, Shape, Shaped, ShownAt, ShowsIn, ShowsRight, Same, Mapped, is_page}
-use Rattle.house.specs.Kept.{Kept, tables_in, shown_meant}
+use Rattle.house.specs.Promise.{can, start_of}
+use Rattle.house.specs.Sound.{Shaped, Same, is_page}
 use Rattle.house.specs.Serving.{Fits, Progress, nothing_cut, Holds, Keeps, Begins}
 use Rattle.house.proofs.Rooms.{Inside, inside_room, shown_right}
-use Rattle.house.proofs.Steps.{steps_keep, no_page_home, house_home, shape_same}
+use Rattle.house.proofs.Steps.{steps_keep, house_home, shape_same}
 use Rattle.house.proofs.Programs.{comes_some, runs_keep}
 
 pub start_same : (h i : Hw) → Same h i → start_of i ≡ start_of h

@@ -1,5 +1,5 @@
 -- A device that the machine does not have is shut.
-use Rattle.std.proofs.Common.{◌≡◌, ℕ, ◌/◌, ◌≤◌, Bool, not, T, leb, List, arith, T_not}
+use Rattle.std.proofs.Common.{◌≡◌, ℕ, ◌/◌, ◌≤◌, Bool, T, leb, List, arith, T_not}
 use Rattle.std.proofs.lemmas.Bool.{le-leb}
 use Rattle.house.specs.declared.Call.{Call}
 use Rattle.house.specs.declared.Call.TheVariants.{Get, Free, Give, Open, Close, Regs, Lend, Recall, End}

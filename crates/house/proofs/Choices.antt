@@ -6,11 +6,10 @@ use Rattle.house.specs.declared.Answer.{Answer}
 use Rattle.house.specs.declared.Answer.TheVariants.{Done, Later, No}
 use Rattle.house.specs.Event.{Event, Asked, Told}
 use Rattle.house.specs.Machine.{Hw, Nothing}
-use Rattle.house.specs.Meaning
 use Rattle.house.specs.Meaning.{Loan, Home, Lent, Leaving, Use, House, TableOf, Idle, Of, State, any, every, is_in, is_idle, loan_of, is_at, is_lent, reaches, owner_is, has, frame_of, loan, idle, full, why, leaving, not_of, shut_all, set_use, set_word, set_drains, set_slots, use_at, acts, takes_frame, excused, is_later, may_tell, device_of, all_drained, Out, out, told_drain}
 use Rattle.house.specs.Words.{is_page}
 use Rattle.house.specs.Rows.{Step, Asks, Stores, Loads, Blank, Puts, Takes, Misses, AllIdle, Played, same, drained_by, drain_events, taken, asked, is_whose, blank, played, plays, all_play, found, finds, in_use, dome, table, group_of, driver_of, Chooses, RowsPlay}
-use Rattle.house.proofs.Shelf.{both, pair, left, not_not, is_true, choose, passes, any_from, any_none, none_any, first_passes, every_same}
+use Rattle.house.proofs.Shelf.{both, pair, not_not, is_true, choose, passes, any_from, any_none, none_any, first_passes, every_same}
 use Rattle.house.proofs.MeaningUses as Uses
 use Rattle.house.proofs.Good.{Fine, acts_fine, fine_start}
 use Rattle.house.proofs.Stays.{recall_passes, has_stays}

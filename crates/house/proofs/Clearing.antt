@@ -1,9 +1,8 @@
 -- Making a frame noughts, word by word.
-use Rattle.std.proofs.Common.{◌≡◌, ℕ, zero, suc, ◌+◌, ◌-◌, ◌<◌, List, sym, refl, ◌∙◌, subst, add-one, arith}
+use Rattle.std.proofs.Common.{ℕ, ◌+◌, ◌<◌, List, sym, refl, ◌∙◌, subst, add-one, arith}
 use Rattle.house.specs.Event.{Event}
 use Rattle.house.specs.Machine.{Hw, Steps, counted, with_mem, put}
 use Rattle.house.specs.Operations.{Clears, Cleared}
-use Rattle.house.specs.Operations
 use Rattle.house.proofs.Steps.{steps_same}
 
 pub cleared_none : (f : ℕ) (h : Hw) (es : List Event) → Cleared f h es 0 h es

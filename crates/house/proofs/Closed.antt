@@ -14,8 +14,8 @@ use Rattle.ledger.specs.View as ledger
 use Rattle.ledger.specs.Uses as tests
 use Rattle.ledger.specs.Changes as changes
 use Rattle.ledger.proofs.Entries.{same_view}
-use Rattle.house.specs.Machine.{Hw, Nothing, Forgotten}
-use Rattle.house.specs.Meaning.{Loan, Home, Lent, Leaving, Use, House, TableOf, Idle, Of, Dev, Shut, Opened, Closing, State, is_shut, owner_is, map_loan, leaving_from, home_from, no_table, closing, shut}
+use Rattle.house.specs.Machine.{Hw, Forgotten}
+use Rattle.house.specs.Meaning.{Use, Of, Dev, Shut, Closing, State, is_shut, owner_is, map_loan, leaving_from, home_from, no_table, closing, shut}
 use Rattle.house.specs.Sound.{view_of, SoundAt, Held}
 use Rattle.house.specs.Kept.{KeptIn, use_meant, loan_meant, dev_meant, regs_meant, tables_in}
 use Rattle.house.specs.Closures.{closed_as}

@@ -21,7 +21,7 @@ use Rattle.house.specs.declared.Answer.TheVariants.{Done, Later, No}
 use Rattle.house.specs.declared.refusals.Refusal.{Refusal}
 use Rattle.house.specs.declared.refusals.Refusal.TheVariants.{OutOfRange, NoPage, Occupied, WrongLoan, NotYours, Held, NoFrame, NotPermitted, NotBuilt}
 use Rattle.house.specs.Event.{Event, Told}
-use Rattle.house.specs.Machine.{Hw, Nothing, Registers, Steps, Drains, counted, with_mem, put}
+use Rattle.house.specs.Machine.{Hw, Nothing, Steps, Drains, counted, with_mem, put}
 use Rattle.house.specs.Meaning
 use Rattle.house.specs.Meaning.{State, Use, is_in, owner_is, map_loan, leaving_from, set_use, why, acts, excused, takes_frame, loosens, out, shut, shutting, Now, Quiet, Under, Over}
 use Rattle.house.specs.Promise.{can, start_of}

@@ -7,7 +7,7 @@ use Rattle.ledger.specs.declared.Use.TheVariants as used
 use Rattle.ledger.specs.View as ledger
 use Rattle.house.specs.Event.{Event}
 use Rattle.house.specs.Machine.{Hw, counted, with_mem, put}
-use Rattle.house.specs.Meaning.{Loan, Lent, Use, House, Of, is_in, Now}
+use Rattle.house.specs.Meaning.{Lent, Use, Of, is_in, Now}
 use Rattle.house.specs.Sound.{is_page}
 use Rattle.house.specs.Sound as sound
 use Rattle.house.specs.Kept.{use_meant, loan_meant}

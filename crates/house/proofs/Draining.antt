@@ -1,8 +1,8 @@
 -- A drain: what it says is noted, and if it says yes of a device that frame 0 has nothing of, that device stays forgotten.
-use Rattle.std.proofs.Common.{◌≡◌, ℕ, Bool, true, false, cond, T, eqb, ◌⊎◌, List, [], ◌∷◌, sym, refl, ap, ◌∙◌, subst, inl, inr, ⊎_elim}
+use Rattle.std.proofs.Common.{◌≡◌, ℕ, Bool, true, false, T, List, ◌∷◌, sym, ap, subst, ⊎_elim}
 use Rattle.ledger.specs.View as ledger
 use Rattle.house.specs.Event.{Event, Drained}
-use Rattle.house.specs.Machine.{Hw, Steps, Drains, Forgotten, counted}
+use Rattle.house.specs.Machine.{Hw, Drains, Forgotten, counted}
 use Rattle.house.specs.Meaning
 use Rattle.house.specs.Meaning.{is_in, told_drain, Now}
 use Rattle.house.specs.Serving.{Progress, Holds}

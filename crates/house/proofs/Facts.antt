@@ -1,13 +1,11 @@
 -- Small facts that the lemmas on the relation share: views with one part changed, a word put into memory, entries and pages, what
 -- is not known of a device, and uses told apart. Assumes nothing.
-use Rattle.std.proofs.Common.{◌≡◌, ℕ, suc, ◌+◌, ◌-◌, ◌*◌, ◌/◌, ◌%◌, ◌<◌, Bool, true, false, cond, not, ◌&&◌, ◌||◌, T, eqb, ◌⊎◌, List, sym, refl, ap, ◌∙◌, subst, inl, inr, arith, eqb→eq, T_not}
-use mathlib.Core.List.{Memᴰ}
-use lib.Dec.{eqb_refl}
-use Rattle.std.proofs.lemmas.Bool.{eq-eqb, ne_eqb, cond_both, eqb-true, eqb-false, and_right, and_parts}
-use Rattle.house.specs.Machine.{Up, Mid, Leaf, put, frame_in, may_write, no_up, no_mid, no_leaf}
+use Rattle.std.proofs.Common.{◌≡◌, ℕ, suc, ◌+◌, ◌-◌, ◌*◌, ◌/◌, ◌%◌, ◌<◌, Bool, true, false, not, ◌&&◌, ◌||◌, T, eqb, refl, arith, eqb→eq}
+use Rattle.std.proofs.lemmas.Bool.{eq-eqb, ne_eqb, cond_both, eqb-true, and_right, and_parts}
+use Rattle.house.specs.Machine.{put, frame_in, may_write}
 use Rattle.house.specs.Meaning.{Leaving, Use, House, TableOf, Idle, Of, Dev, reaches, is_idle}
 use Rattle.house.specs.Sound.{View, entry_of}
-use Rattle.house.proofs.Shelf.{both, differ}
+use Rattle.house.proofs.Shelf.{both}
 
 -- a view with other uses, another row of devices, other slots
 abbrev pub with_uses : (ℕ → Use) → View → View

@@ -1,7 +1,6 @@
 -- get and free: when each is refused, and what it makes of the room and the machine.
-use Rattle.std.proofs.Common.{◌≡◌, ℕ, zero, suc, ◌<◌, ◌≤◌, Bool, true, false, cond, not, ◌&&◌, ◌||◌, T, eqb, leb, List, [], ◌∷◌, sym, refl, ap, ◌∙◌, subst, arith}
+use Rattle.std.proofs.Common.{◌≡◌, ℕ, ◌<◌, ◌&&◌, eqb, List, [], ◌∷◌, sym, refl, ap, ◌∙◌, subst, arith}
 use Rattle.std.proofs.lemmas.Bool.{lt-leb, le-leb, lt-ltb}
-use Rattle.ledger.specs.declared.Loan as loans
 use Rattle.ledger.specs.declared.Loan.TheVariants as loan
 use Rattle.ledger.specs.declared.Use.TheVariants as used
 use Rattle.ledger.specs.declared.Place.TheVariants as place
@@ -23,8 +22,8 @@ use Rattle.house.specs.Kept.{Kept, use_meant, loan_meant, regs_meant, shown_mean
 use Rattle.house.specs.Operations.{Cleared}
 use Rattle.house.specs.Refusals.{number_of, GetRefused, FreeRefused}
 use Rattle.house.specs.Serving.{nothing_cut, Holds, Keeps, Begins}
-use Rattle.house.proofs.Shelf.{is_true, is_false, from_true}
-use Rattle.house.proofs.Rooms.{Inside, inside_room, vacant, occupied, idle_frame, page_there, page_has, page_use, table_at_no_page, no_idle, registers_taken, loan_away}
+use Rattle.house.proofs.Shelf.{is_true, is_false}
+use Rattle.house.proofs.Rooms.{Inside, inside_room, vacant, occupied, idle_frame, page_has, page_use, table_at_no_page, no_idle, loan_away}
 use Rattle.house.proofs.Keeping.{kept_use, kept_place, shown_change}
 use Rattle.house.proofs.Uses.{use_home}
 use Rattle.house.proofs.PageWords.{words_get, words_none}

@@ -1,18 +1,18 @@
 -- The keeper's own operations on an idle frame: nobody reaches it, so all holds as before.
-use Rattle.std.proofs.Common.{◌≡◌, ℕ, zero, suc, ◌<◌, Bool, not, T, ◌⊎◌, List, sym, refl, ap, ◌∙◌, subst, ⊎_elim, arith, T_not}
+use Rattle.std.proofs.Common.{◌≡◌, ℕ, suc, ◌<◌, not, T, List, sym, refl, ap, ◌∙◌, subst, ⊎_elim, arith, T_not}
 use Rattle.std.proofs.lemmas.Bool.{cases_eq, eq-eqb, ne_eqb}
 use Rattle.ledger.specs.declared.Use.TheVariants as used
 use Rattle.ledger.specs.View as ledger
 use Rattle.house.specs.Event.{Event}
 use Rattle.house.specs.Machine.{Hw, Steps, counted, with_mem, put}
-use Rattle.house.specs.Meaning.{Use, House, Idle, is_idle, is_home, loan_of, Now}
+use Rattle.house.specs.Meaning.{Use, Idle, is_idle, is_home, loan_of, Now}
 use Rattle.house.specs.Sound.{is_page}
 use Rattle.house.specs.Sound as sound
 use Rattle.house.specs.Kept.{use_meant}
 use Rattle.house.specs.Operations.{Clears}
 use Rattle.house.specs.Serving.{Progress, Holds}
 use Rattle.house.proofs.Steps.{steps_keep}
-use Rattle.house.proofs.Facts.{put_elsewhere, put_here}
+use Rattle.house.proofs.Facts.{put_elsewhere}
 use Rattle.house.proofs.Uses.{mem_keeps}
 use Rattle.house.proofs.PageWords.{words_put}
 use Rattle.house.proofs.Between.{holds_steps}

@@ -1,5 +1,5 @@
 -- The room's changes are the meaning's: what is written into an entry of the room, in the words of the meaning.
-use Rattle.std.proofs.Common.{◌≡◌, ℕ, suc, ◌-◌, Bool, true, false, cond, not, ◌&&◌, ◌||◌, T, eqb, sym, refl, ap, ◌∙◌, subst, arith}
+use Rattle.std.proofs.Common.{◌≡◌, ℕ, suc, Bool, true, false, cond, not, ◌&&◌, ◌||◌, eqb, sym, refl, ap, ◌∙◌, arith}
 use Rattle.std.proofs.lemmas.Bool.{and_parts, eqb-true, ne_eqb}
 use Rattle.ledger.specs.declared.Use as uses
 use Rattle.ledger.specs.declared.Place.{Place}
@@ -7,8 +7,8 @@ use Rattle.ledger.specs.declared.Device.{Device}
 use Rattle.ledger.specs.View as ledger
 use Rattle.ledger.specs.Changes as changes
 use Rattle.house.specs.Machine.{Shown}
-use Rattle.house.specs.Meaning.{State, Use, Dev, use_at, set_use, set_dev, set_slots, set_regs}
-use Rattle.house.specs.Kept.{Kept, KeptIn, use_meant, dev_meant, regs_meant, shown_meant}
+use Rattle.house.specs.Meaning.{State, Use, use_at, set_use, set_dev, set_slots, set_regs}
+use Rattle.house.specs.Kept.{Kept, use_meant, dev_meant, regs_meant, shown_meant}
 
 -- a reading of a changed entry
 pub meant_change : {A B : Type 0} (m : A → B) (b : Bool) (x y : A) (z : B) → z ≡ m y → cond b (m x) z ≡ m (cond b x y)

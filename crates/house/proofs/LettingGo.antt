@@ -17,7 +17,7 @@ use Rattle.ledger.specs.Consistent.{Coherent}
 use Rattle.ledger.proofs.Entries.{same_view}
 use Rattle.house.specs.declared.Call.TheVariants.{End}
 use Rattle.house.specs.Event.{Event}
-use Rattle.house.specs.Machine.{Hw, Nothing}
+use Rattle.house.specs.Machine.{Hw}
 use Rattle.house.specs.Meaning
 use Rattle.house.specs.Meaning.{State, Loan, Home, Lent, Leaving, Use, Of, Dev, is_in, every, any, is_shut, owner_is, map_loan, leaving, device_of, all_drained, set_use, why, loosens, Now, Under}
 use Rattle.house.specs.Promise.{can}

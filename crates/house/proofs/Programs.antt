@@ -1,11 +1,11 @@
 -- Programs that run keep the relation too: they reach their own pages only.
 -- Assumes nothing.
-use Rattle.std.proofs.Common.{◌≡◌, ℕ, ◌<◌, Bool, not, T, List, [], ◌∷◌, Some, None, refl, ap, ◌∙◌, subst}
+use Rattle.std.proofs.Common.{◌≡◌, ℕ, ◌<◌, Bool, T, List, ◌∷◌, Some, None, refl, ap, ◌∙◌, subst}
 use mathlib.Core.Path.{subst⁻¹}
 use Rattle.house.specs.declared.Call.{Call}
 use Rattle.house.specs.Event.{Event, Asked, Loaded, Stored, Faulted, Poked}
 use Rattle.house.specs.Machine.{Shown, Nothing, Frame, Registers, Hw, Runs, Comes, with_mem, allowed, put}
-use Rattle.house.specs.Meaning.{Loan, Use, House, TableOf, Idle, Of, State, Quiet, Under, Run, is_of, set_word, set_drains}
+use Rattle.house.specs.Meaning.{Loan, Use, House, TableOf, Idle, Of, State, Quiet, Run, is_of, set_word}
 use Rattle.house.specs.Simulation.{Begun}
 use Rattle.house.specs.Sound.{Tables, view_of, SoundAt, Words, Shape, Same, Steady, Ran, ShownAt, ShowsRight, ShowsIn, is_page}
 use Rattle.house.proofs.Facts.{put_elsewhere}

@@ -1,5 +1,5 @@
 -- Reading the meaning off a room: what a consistent room says of a place, a frame, a device is what the meaning has there.
-use Rattle.std.proofs.Common.{◌≡◌, ℕ, zero, suc, ◌+◌, ◌-◌, ◌*◌, ◌<◌, ◌≤◌, Bool, true, false, cond, not, ◌&&◌, ◌||◌, T, eqb, ltb, ◌⊎◌, List, length, sym, refl, ap, ◌∙◌, subst, inl, inr, ⊎_elim, arith, eqb→eq}
+use Rattle.std.proofs.Common.{◌≡◌, ℕ, suc, ◌<◌, ◌≤◌, Bool, true, false, not, T, eqb, ltb, List, sym, refl, ap, ◌∙◌, subst, ⊎_elim, arith, eqb→eq}
 use Rattle.std.proofs.lemmas.Bool.{false≢true, and_parts, eqb-true, lt-ltb, le-ltb, cases_lt, cond-false}
 use Rattle.ledger.specs.declared.Loan as loans
 use Rattle.ledger.specs.declared.Loan.TheVariants as lending
@@ -7,16 +7,15 @@ use Rattle.ledger.specs.declared.Use as uses
 use Rattle.ledger.specs.declared.Use.TheVariants as used
 use Rattle.ledger.specs.declared.Place.{Place}
 use Rattle.ledger.specs.declared.Place.TheVariants as place
-use Rattle.ledger.specs.declared.Device.{Device}
 use Rattle.ledger.specs.declared.Device.TheVariants as device
 use Rattle.ledger.specs.View as ledger
 use Rattle.ledger.specs.Uses as tests
-use Rattle.ledger.specs.Consistent.{Coherent, Consistent, PlaceOk, FrameOk, LoanOk}
-use Rattle.house.specs.Machine.{Shown, Nothing, Frame, Registers}
-use Rattle.house.specs.Meaning.{Loan, Home, Lent, Leaving, Use, House, TableOf, Idle, Of, Dev, Shut, Opened, Closing, State, is_of, is_idle, any, first, has, frame_of, taken, full, idle, loan, loan_of, is_home}
+use Rattle.ledger.specs.Consistent.{Coherent, PlaceOk, FrameOk, LoanOk}
+use Rattle.house.specs.Machine.{Shown}
+use Rattle.house.specs.Meaning.{Loan, Use, Of, State, is_of, is_idle, any, has, frame_of, taken, full, idle, loan, loan_of, is_home}
 use Rattle.house.specs.Sound.{ShownAt, ShowsIn, ShowsRight}
-use Rattle.house.specs.Kept.{Kept, KeptIn, use_meant, loan_meant, dev_meant, regs_meant, shown_meant}
-use Rattle.house.proofs.Shelf.{both, pair, is_true, is_false, from_true, same_number, any_from, any_some, none_any, first_passes, nor, left, right, other_number}
+use Rattle.house.specs.Kept.{Kept, use_meant, loan_meant, regs_meant, shown_meant}
+use Rattle.house.proofs.Shelf.{both, pair, from_true, same_number, any_from, none_any, first_passes, nor, left, right, other_number}
 
 -- every frame past the last is idle
 abbrev pub Inside : ℕ → ledger.View → Type 0

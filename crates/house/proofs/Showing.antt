@@ -15,7 +15,6 @@ use Rattle.house.specs.Event.{Event, Told}
 use Rattle.house.specs.Machine.{Hw, Registers, Steps, shows, counted}
 use Rattle.house.specs.Meaning
 use Rattle.house.specs.Meaning.{State, Dev, taken, open_by, why, acts, excused, takes_frame, set_regs, Quiet, Under, Over}
-use Rattle.house.specs.Sound.{view_of}
 use Rattle.house.specs.Kept.{Kept, dev_meant, regs_meant, shown_meant}
 use Rattle.house.specs.Refusals.{number_of, RegsRefused}
 use Rattle.house.specs.Serving.{nothing_cut, Holds, Keeps, Begins}

@@ -1,10 +1,9 @@
 -- After a device is shut, and after all of a program are: what is gone, and what stays. Assumes nothing.
-use Rattle.std.proofs.Common.{◌≡◌, ℕ, zero, suc, ◌<◌, not, ◌||◌, T, eqb, ◌⊎◌, sym, refl, subst, ⊎_elim, arith, T_not}
+use Rattle.std.proofs.Common.{◌≡◌, ℕ, zero, suc, ◌<◌, not, ◌||◌, T, eqb, sym, refl, subst, ⊎_elim, arith, T_not}
 use Rattle.std.proofs.lemmas.Bool.{cases_eq}
-use Rattle.house.specs.Meaning.{Loan, Home, Lent, Leaving, Use, House, TableOf, Idle, Of, Dev, Shut, State, loan_of, is_at, owner_is, is_shut, has, home_from, map_loan, no_table, closing, shut, shutting, shut_all, any, is_in, all_drained}
-use Rattle.house.specs.Served.{after}
+use Rattle.house.specs.Meaning.{Loan, Home, Lent, Leaving, Use, House, TableOf, Idle, Of, Dev, Shut, State, loan_of, is_at, owner_is, is_shut, home_from, map_loan, no_table, closing, shut, shutting, shut_all, is_in, all_drained}
 use Rattle.house.proofs.Shelf.{both, either, neither, not_not, not_both, choose, here}
-use Rattle.house.proofs.MeaningUses.{found, shut_unowned, closing_owner, shut_is, closing_shut, shut_fewer, shutting_fewer, through_shut_all}
+use Rattle.house.proofs.MeaningUses.{shut_unowned, closing_owner, shut_is, closing_shut, shut_fewer, shutting_fewer, through_shut_all}
 
 -- nothing is found at any page of a device
 abbrev pub NothingAt : ℕ → (ℕ → Use) → Type 0

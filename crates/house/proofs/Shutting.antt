@@ -3,13 +3,13 @@ use Rattle.std.proofs.Common.{◌≡◌, ℕ, suc, ◌+◌, ◌*◌, ◌/◌, Bo
 use lib.Dec.{not_T}
 use Rattle.std.proofs.lemmas.Bool.{cases_eq, ne_eqb, cond_both}
 use Rattle.house.specs.Machine.{Up, Mid, Leaf, frame_in, no_up, no_mid, no_leaf}
-use Rattle.house.specs.declared.Call.TheVariants.{Close, Recall, End}
-use Rattle.house.specs.Meaning.{Loan, Home, Lent, Leaving, Use, House, TableOf, Idle, Of, Dev, Shut, Opened, Closing, State, loan_of, reaches, is_shut, map_loan, home_from, no_table, closing, shut, shutting, loosens, frame_of, loan, any, owner_is, device_of}
+use Rattle.house.specs.declared.Call.TheVariants.{Close, End}
+use Rattle.house.specs.Meaning.{Loan, Home, Lent, Leaving, Use, House, TableOf, Idle, Of, Dev, Shut, Opened, Closing, State, loan_of, reaches, is_shut, map_loan, home_from, no_table, closing, shut, shutting, loosens, any, owner_is, device_of}
 use Rattle.house.specs.Sound.{Tables, View, Held, Good, Sound, view_of}
 use Rattle.house.proofs.Facts.{with_devs, reached_at}
 use Rattle.house.proofs.Known.{no_up_not, no_mid_not, no_leaf_not}
 use Rattle.house.proofs.Shelf.{both, pair, differ, at_one, there}
-use Rattle.house.proofs.Uses.{good_to, leaving_all, leaving_where, use_leaving, pageless, lent}
+use Rattle.house.proofs.Uses.{good_to, leaving_all, leaving_where, pageless, lent}
 
 -- what a shut device leaves: whoever else reached a frame still does, tables of others stay, nothing is lent to it
 others : (d : ℕ) (l : Loan) (a p : ℕ) (w : Bool) → (a ≡ d → ⊥) → T (reaches a p w l) → T (reaches a p w (home_from d l))

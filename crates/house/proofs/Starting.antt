@@ -1,25 +1,22 @@
 -- Setting up: while the unit is off frame 0 is made noughts, and then it is started.
-use Rattle.std.proofs.Common.{◌≡◌, ℕ, zero, suc, ◌+◌, ◌*◌, ◌<◌, ◌≤◌, Bool, true, false, cond, not, ◌||◌, T, eqb, ltb, ◌⊎◌, List, [], ◌∷◌, sym, refl, ap, ◌∙◌, subst, inl, inr, ⊎_elim, arith}
+use Rattle.std.proofs.Common.{◌≡◌, ℕ, suc, ◌<◌, Bool, true, false, cond, T, ltb, ◌⊎◌, List, [], sym, refl, ap, ◌∙◌, subst, inl, inr, ⊎_elim, arith}
 use mathlib.Core.List.Memᴰ
 use mathlib.Core.List.{Memᴰ}
 use Rattle.std.proofs.lemmas.Bool.{cases_eq, eq-eqb, ne_eqb, le-ltb}
-use Rattle.std.proofs.lemmas.Bool.Decides.{nat_tests}
-use Rattle.ledger.specs.declared.Use as uses
-use Rattle.ledger.specs.declared.Use.TheVariants as used
 use Rattle.ledger.specs.View as ledger
 use Rattle.ledger.specs.Changes.{empty}
 use Rattle.ledger.specs.Consistent.{Consistent}
 use Rattle.house.specs.Event.{Event}
-use Rattle.house.specs.Machine.{Hw, Shown, Nothing, AtStart, Steps, Up, Mid, Leaf, counted, with_mem, put, started}
+use Rattle.house.specs.Machine.{Hw, Shown, AtStart, Steps, Up, Mid, Leaf, counted, put, started}
 use Rattle.house.specs.Meaning
 use Rattle.house.specs.Meaning.{State, Use, House, Idle, TableOf, Of, Loan, Lent, Quiet, Run, set_word, is_home, loan_of}
 use Rattle.house.specs.Promise.{can, start_of}
-use Rattle.house.specs.Sound.{Tables, View, view_of, Held, SoundAt, Sound, Words, Shape, Same}
-use Rattle.house.specs.Kept.{Kept, KeptIn, tables_in, use_meant, dev_meant, regs_meant, shown_meant}
+use Rattle.house.specs.Sound.{Tables, view_of, SoundAt, Sound}
+use Rattle.house.specs.Kept.{Kept, tables_in, use_meant, dev_meant, regs_meant, shown_meant}
 use Rattle.house.specs.Operations.{Clears, Cleared}
-use Rattle.house.specs.Serving.{Fits, nothing_cut, Holds, Keeps}
-use Rattle.house.proofs.Steps.{steps_keep, house_home, steps_same, same_then}
-use Rattle.house.proofs.Between.{start_same, holds_steps, moved}
+use Rattle.house.specs.Serving.{nothing_cut, Holds, Keeps}
+use Rattle.house.proofs.Steps.{steps_keep, house_home, steps_same}
+use Rattle.house.proofs.Between.{holds_steps, moved}
 
 -- no table is anywhere
 abbrev pub no_tables : Tables

@@ -1,6 +1,6 @@
 -- Events: calls and their answers, what programs see at their places, what devices do, and what the IOMMU answered to drains.
 -- A history is a list of them, the newest first. Nothing is assumed here.
-use Rattle.std.specs.Prelude.{ℕ, zero, suc, Bool, true, false, List, [], ◌∷◌}
+use Rattle.std.specs.Prelude.{ℕ, Bool}
 use Rattle.house.specs.declared.Call.{Call}
 use Rattle.house.specs.declared.Answer.{Answer}
 

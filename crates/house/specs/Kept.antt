@@ -1,6 +1,6 @@
 -- What the room says, in the words of the meaning.
 -- Nothing is assumed here.
-use Rattle.std.specs.Prelude.{◌≡◌, ℕ, zero, suc, ◌-◌, ◌<◌, Bool, true, false, not, List, ◌==◌}
+use Rattle.std.specs.Prelude.{◌≡◌, ℕ, suc, ◌-◌, ◌<◌, Bool, not, ◌==◌}
 use Rattle.ledger.specs.declared.Loan as loans
 use Rattle.ledger.specs.declared.Loan.TheVariants as loan
 use Rattle.ledger.specs.declared.Use as uses

@@ -1,6 +1,6 @@
 -- The machine: memory, the address spaces of programs, and the IOMMU with everything that it may still have cached or under way.
 -- Nothing is assumed here.
-use Rattle.std.specs.Prelude.{◌≡◌, ℕ, zero, suc, ◌+◌, ◌-◌, ◌*◌, ◌/◌, ◌%◌, ◌<◌, ◌≤◌, Bool, true, false, cond, not, ◌&&◌, ◌||◌, T, ◌⊎◌, List, [], ◌∷◌, ◌++◌, Some, None, ◌==◌}
+use Rattle.std.specs.Prelude.{◌≡◌, ℕ, zero, suc, ◌+◌, ◌-◌, ◌*◌, ◌/◌, ◌%◌, ◌<◌, ◌≤◌, Bool, true, false, cond, not, ◌&&◌, T, ◌⊎◌, List, [], ◌∷◌, ◌++◌, Some, None, ◌==◌}
 use mathlib.Core.List.{Memᴰ}
 use Rattle.house.specs.declared.Call.{Call}
 use Rattle.house.specs.Event.{Event, Asked, Loaded, Stored, Faulted, Poked, TookFrom, PutInto, Missed, Drained}

@@ -1,7 +1,6 @@
 -- The meaning of the calls: whose each frame is, when a call is refused, what it does when it takes effect, and which histories
 -- are thereby explained. Nothing is assumed here.
-use Rattle.std.specs.Prelude.{◌≡◌, ℕ, zero, suc, ◌+◌, ◌-◌, ◌*◌, ◌/◌, ◌%◌, ◌<◌, ◌≤◌, Bool, true, false, cond, not, ◌&&◌, ◌||◌, T, ◌⊎◌, List, [], ◌∷◌, ◌++◌, ◌==◌, nat_le, nat_lt}
-use mathlib.Core.List.{Memᴰ}
+use Rattle.std.specs.Prelude.{◌≡◌, ℕ, zero, suc, ◌/◌, ◌<◌, Bool, true, false, cond, not, ◌&&◌, ◌||◌, T, List, [], ◌∷◌, ◌==◌, nat_le, nat_lt}
 use Rattle.house.specs.declared.Call.{Call}
 use Rattle.house.specs.declared.Call.TheVariants.{Get, Free, Give, Open, Close, Regs, Lend, Recall, End}
 use Rattle.house.specs.declared.Answer.{Answer}

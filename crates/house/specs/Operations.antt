@@ -1,6 +1,6 @@
 -- What the keeper has asked of the machine in several operations, with the steps of devices and the unit between them.
 -- Nothing is assumed here.
-use Rattle.std.specs.Prelude.{◌≡◌, ℕ, zero, suc, ◌+◌, List}
+use Rattle.std.specs.Prelude.{◌≡◌, ℕ, suc, ◌+◌, List}
 use Rattle.house.specs.Event.{Event}
 use Rattle.house.specs.Machine.{Hw, Steps, counted, with_mem, put}
 

@@ -1,13 +1,10 @@
 -- What the traits cite of the promise, and the theorems beside the main one. Nothing is assumed here.
-use Rattle.std.specs.Prelude.{◌≡◌, ℕ, zero, suc, ◌+◌, ◌*◌, ◌/◌, ◌<◌, ◌≤◌, Bool, true, false, cond, not, ◌&&◌, ◌||◌, T, eqb, ltb, leb, ◌⊎◌, List, [], ◌∷◌, ◌++◌}
-use mathlib.Core.List.{Memᴰ}
+use Rattle.std.specs.Prelude.{◌≡◌, ℕ, ◌+◌, ◌*◌, ◌<◌, Bool, not, T, ◌⊎◌, List, ◌∷◌}
 use Rattle.house.specs.declared.Call.{Call}
-use Rattle.house.specs.declared.Call.TheVariants.{Get, Free, Give, Open, Close, Regs, Lend, Recall, End}
-use Rattle.house.specs.declared.Answer.{Answer}
-use Rattle.house.specs.declared.Answer.TheVariants.{Done, Later, No}
-use Rattle.house.specs.Event.{Event, Asked, Told, Loaded, Stored, Faulted, TookFrom, PutInto, Missed, Drained}
+use Rattle.house.specs.declared.Call.TheVariants.{Get}
+use Rattle.house.specs.Event.{Event, TookFrom, PutInto}
 use Rattle.house.specs.Machine.{Hw}
-use Rattle.house.specs.Meaning.{Loan, Home, Lent, Leaving, Use, House, TableOf, Idle, Of, Dev, State, is_of, is_at, is_idle, loan_of, is_home, reaches, open_by, owner_is, has, frame_of, why, acts, core, all, at_start, Now, Quiet, Under, Over, Run, Explained}
+use Rattle.house.specs.Meaning.{Lent, Leaving, Of, State, is_of, is_at, loan_of, open_by, owner_is, has, acts, core, all, at_start, Now, Run}
 
 -- the calls that are built: it only grows
 abbrev pub can : Call → Bool

@@ -1,6 +1,6 @@
 -- What holds between calls, as a call begins, and within one.
 -- Nothing is assumed here.
-use Rattle.std.specs.Prelude.{◌≡◌, ℕ, suc, ◌<◌, ◌≤◌, Bool, true, false, cond, T, List, [], ◌∷◌}
+use Rattle.std.specs.Prelude.{◌≡◌, ℕ, suc, ◌<◌, ◌≤◌, Bool, false, cond, T, List, []}
 use Rattle.ledger.specs.declared.Device.TheVariants as device
 use Rattle.ledger.specs.View as ledger
 use Rattle.ledger.specs.Consistent.{Consistent}

@@ -1,6 +1,6 @@
 -- The simulation: whatever devices, the unit and programs do is explained, and the relation holds again after it.
 -- Nothing is assumed here.
-use Rattle.std.specs.Prelude.{◌≡◌, ℕ, ◌<◌, Bool, not, T, List, [], ◌∷◌, Some, None}
+use Rattle.std.specs.Prelude.{◌≡◌, ℕ, ◌<◌, Bool, not, T, List, [], Some}
 use Rattle.house.specs.declared.Call.{Call}
 use Rattle.house.specs.Event.{Event}
 use Rattle.house.specs.Machine.{Hw, Steps, Runs, Drains, Comes, counted, allowed}

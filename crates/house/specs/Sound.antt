@@ -2,12 +2,12 @@
 -- It is stated over the parts that it speaks of, so that it holds as it stands of a state with other words, or of hardware with
 -- another count of asks.
 -- Assumes nothing.
-use Rattle.std.specs.Prelude.{◌≡◌, ℕ, zero, suc, ◌+◌, ◌-◌, ◌*◌, ◌/◌, ◌%◌, ◌<◌, ◌≤◌, Bool, true, false, cond, not, ◌||◌, T, ◌⊎◌, List, [], ◌∷◌, ◌==◌, ◌≢◌}
+use Rattle.std.specs.Prelude.{◌≡◌, ℕ, suc, ◌+◌, ◌*◌, ◌/◌, ◌%◌, ◌<◌, Bool, true, false, cond, not, ◌||◌, T, ◌⊎◌, List, ◌==◌, ◌≢◌}
 use mathlib.Core.List.{Memᴰ}
 use Rattle.house.specs.declared.Call.{Call}
 use Rattle.house.specs.Event.{Event}
 use Rattle.house.specs.Machine.{Shown, Nothing, Frame, Registers, Hw, Up, Mid, Leaf, frame_in, may_write, Forgotten}
-use Rattle.house.specs.Meaning.{Loan, Home, Lent, Leaving, Use, House, TableOf, Idle, Of, Dev, State, is_of, loan_of, is_home, reaches, is_shut, any, first, set_word, Now, Quiet, Run}
+use Rattle.house.specs.Meaning.{Loan, Lent, Use, House, TableOf, Idle, Of, Dev, State, is_of, loan_of, is_home, reaches, is_shut, any, first, set_word, Now, Quiet, Run}
 
 -- where the keeper put the page tables: the upper one of a device, and the lower one of each of its slots
 pub record Tables : Type 0 where

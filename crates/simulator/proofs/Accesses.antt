@@ -1,17 +1,16 @@
 -- Walks through the tables, and accesses by what they find.
-use Rattle.std.proofs.Common.{◌≡◌, ℕ, zero, suc, ◌+◌, ◌-◌, ◌*◌, ◌/◌, ◌%◌, ◌<◌, ◌≤◌, Bool, true, false, cond, not, T, ◌⊎◌, List, [], ◌∷◌, ◌++◌, map, length, set, sym, refl, ap, ◌∙◌, subst, inl, inr, ⊎_elim, arith}
+use Rattle.std.proofs.Common.{◌≡◌, ℕ, zero, suc, ◌+◌, ◌-◌, ◌*◌, ◌/◌, ◌%◌, ◌<◌, Bool, true, false, cond, List, ◌∷◌, length, set, sym, refl, ap, ◌∙◌, subst, arith}
 use mathlib.Core.Path.{fun_ext}
-use mathlib.Core.List.{Memᴰ}
 use Rattle.std.proofs.lemmas.Bool.{cond-true}
-use Rattle.house.specs.Event.{Event, TookFrom, PutInto, Missed}
-use Rattle.house.specs.Machine.{Hw, Up, Mid, Leaf, Step, Steps, none, more, known, frame_in, may_write, with_mem, put, walked, upper, lower}
+use Rattle.house.specs.Event.{Event, PutInto}
+use Rattle.house.specs.Machine.{Hw, frame_in, may_write, with_mem, put, walked, upper, lower}
 use Rattle.simulator.specs.declared.rows.Note.{Note}
 use Rattle.simulator.specs.Notes.{event_of}
 use Rattle.simulator.specs.Store.{mem_of, space_of}
-use Rattle.simulator.specs.Parts.{Parts, hw_of, seen_of, Goes, noted}
-use Rattle.simulator.specs.Effects.{PutAt, TookAt, MissedAt}
+use Rattle.simulator.specs.Parts.{Parts, hw_of, seen_of, noted}
+use Rattle.simulator.specs.Effects.{PutAt}
 use Rattle.simulator.proofs.Tricks.{truly}
-use Rattle.simulator.proofs.Asked.{written, steps_then}
+use Rattle.simulator.proofs.Asked.{written}
 use Rattle.simulator.proofs.Words.{mem_set}
 
 -- a word of memory written

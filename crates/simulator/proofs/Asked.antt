@@ -1,8 +1,8 @@
 -- What each thing that the keeper asks does to the parts, and that devices' steps follow.
-use Rattle.std.proofs.Common.{◌≡◌, ℕ, zero, suc, ◌+◌, ◌-◌, ◌*◌, ◌<◌, ◌≤◌, Bool, true, false, cond, ◌&&◌, eqb, List, [], ◌∷◌, ◌++◌, map, length, set, sym, refl, ap, ◌∙◌, subst, append_assoc, arith}
+use Rattle.std.proofs.Common.{◌≡◌, ℕ, ◌+◌, ◌-◌, ◌*◌, ◌<◌, cond, ◌&&◌, eqb, List, length, set, sym, ap, ◌∙◌, subst}
 use mathlib.Core.Path.{fun_ext}
 use Rattle.house.specs.Event.{Event}
-use Rattle.house.specs.Machine.{Hw, Shown, Step, Steps, none, more, with_mem, counted, put, shows}
+use Rattle.house.specs.Machine.{Hw, Shown, Steps, none, more, with_mem, counted, put, shows}
 use Rattle.simulator.specs.Store.{mem_of, space_of, shown_of}
 use Rattle.simulator.specs.Parts.{Parts, hw_of, seen_of, Goes}
 use Rattle.simulator.proofs.Words.{mem_set, space_set}

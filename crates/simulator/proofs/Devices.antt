@@ -1,8 +1,8 @@
 -- Accesses by the tables and by what was kept, as rows of single steps that leave nothing known.
-use Rattle.std.proofs.Common.{◌≡◌, ℕ, zero, suc, ◌+◌, ◌-◌, ◌*◌, ◌/◌, ◌%◌, ◌<◌, ◌≤◌, Bool, true, false, cond, T, List, [], ◌∷◌, ◌++◌, map, length, Some, None, Option, sym, refl, ap, ◌∙◌, subst, arith}
+use Rattle.std.proofs.Common.{◌≡◌, ℕ, suc, ◌+◌, ◌-◌, ◌*◌, ◌/◌, ◌%◌, ◌<◌, Bool, true, false, T, List, ◌∷◌, length, Some, sym, refl, ap, ◌∙◌, subst, arith}
 use mathlib.Core.List.{Memᴰ}
-use Rattle.house.specs.Event.{Event, TookFrom, PutInto, Missed}
-use Rattle.house.specs.Machine.{Hw, Up, Mid, Leaf, Step, Steps, none, more, known, drop_one, up, mid, leaf, less_up, less_mid, less_leaf, flies, fails, takes, puts, misses, frame_in, may_write, with_mem, put}
+use Rattle.house.specs.Event.{Event, TookFrom, PutInto}
+use Rattle.house.specs.Machine.{Hw, Up, Mid, Leaf, Steps, none, more, known, drop_one, up, mid, leaf, less_up, less_mid, less_leaf, flies, fails, takes, puts, frame_in, may_write, with_mem, put}
 use Rattle.script.specs.declared.forms.Line.TheVariants as line
 use Rattle.script.specs.declared.forms.Line.{Line}
 use Rattle.script.specs.declared.outcomes.Outcome.TheVariants as say
@@ -16,7 +16,7 @@ use Rattle.simulator.specs.Heard.{Heard}
 use Rattle.simulator.proofs.Asked.{steps_then}
 use Rattle.simulator.proofs.Forgets.{keeping, steps_at}
 use Rattle.simulator.proofs.Listed.{member_among}
-use Rattle.simulator.proofs.Tricks.{mem_map, up_goes, mid_goes, leaf_goes, same_goes, miss_goes}
+use Rattle.simulator.proofs.Tricks.{mem_map, up_goes, mid_goes, leaf_goes, miss_goes}
 use Rattle.simulator.proofs.Lines.{goes_ran, heard_at, same_ran, runs_then}
 
 -- the way in to a page, through all three levels, and an access let through; and all forgotten again

@@ -1,8 +1,8 @@
 -- Forgetting all of a device is a row of single steps, and leaves nothing of it.
-use Rattle.std.proofs.Common.{◌≡◌, ℕ, zero, suc, ◌+◌, ◌-◌, ◌<◌, ◌≤◌, Bool, true, false, cond, not, ◌&&◌, T, eqb, ◌⊎◌, List, [], ◌∷◌, ◌++◌, map, length, sym, refl, ap, ◌∙◌, subst, inl, inr, append_assoc, arith}
+use Rattle.std.proofs.Common.{◌≡◌, ℕ, Bool, true, false, cond, not, ◌&&◌, T, eqb, ◌⊎◌, List, [], ◌∷◌, ◌++◌, map, length, sym, refl, ap, ◌∙◌, subst, inl, inr, append_assoc, arith}
 use Rattle.std.proofs.lemmas.Bool.{cases_Bool, cond-true, cond-false}
 use Rattle.house.specs.Event.{Event, Drained}
-use Rattle.house.specs.Machine.{Hw, Up, Mid, Leaf, Step, Steps, none, more, known, drop_one, less_up, less_mid, less_leaf, fails, no_up, no_mid, no_leaf, Forgotten, counted, Drains, yes', not_yet, takes, puts, misses, up, mid, leaf, flies}
+use Rattle.house.specs.Machine.{Hw, Step, Steps, none, more, known, drop_one, less_up, less_mid, less_leaf, fails, no_up, no_mid, no_leaf, Forgotten, counted, Drains, yes', not_yet, takes, puts, misses, up, mid, leaf, flies}
 use Rattle.simulator.specs.Lists.{without, device_in}
 use Rattle.simulator.specs.Parts.{Parts, hw_of, seen_of, Goes, up_of, mid_of, leaf_of}
 use Rattle.simulator.proofs.Asked.{steps_then}

@@ -1,8 +1,8 @@
 -- What lines of a script do: programs run, and what is heard of it.
-use Rattle.std.proofs.Common.{◌≡◌, ℕ, zero, suc, ◌+◌, ◌-◌, ◌*◌, ◌<◌, ◌≤◌, Bool, true, false, cond, List, [], ◌∷◌, ◌++◌, map, length, set, Some, Option, sym, refl, ap, ◌∙◌, subst, arith}
+use Rattle.std.proofs.Common.{◌≡◌, ℕ, ◌+◌, ◌*◌, ◌<◌, List, ◌∷◌, map, length, set, Some, Option, sym, ap, ◌∙◌, subst}
 use Rattle.house.specs.declared.Call.{Call}
 use Rattle.house.specs.Event.{Event, Asked, Loaded, Stored, Faulted, Poked}
-use Rattle.house.specs.Machine.{Hw, Shown, Nothing, Frame, Registers, Step, Steps, none, more, Runs, rest, device, loads, stores, pokes, faults, with_mem, put, Comes, comes, over, allowed}
+use Rattle.house.specs.Machine.{Hw, Shown, Nothing, Frame, Registers, Steps, none, more, Runs, rest, device, loads, stores, pokes, faults, with_mem, put, Comes, comes, over, allowed}
 use Rattle.script.specs.declared.forms.Line.TheVariants as line
 use Rattle.script.specs.declared.forms.Line.{Line}
 use Rattle.script.specs.declared.outcomes.Outcome.{Outcome}

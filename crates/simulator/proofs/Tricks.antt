@@ -1,16 +1,15 @@
 -- Each trick is one step of the unit or of a device, or none.
-use Rattle.std.proofs.Common.{◌≡◌, ℕ, zero, suc, ◌+◌, ◌-◌, ◌*◌, ◌<◌, ◌≤◌, Bool, true, false, cond, not, T, eqb, ltb, ◌⊎◌, List, [], ◌∷◌, ◌++◌, map, length, Some, None, Option, sym, refl, ap, ◌∙◌, subst, inl, inr, ⊎_elim, arith}
+use Rattle.std.proofs.Common.{◌≡◌, ℕ, zero, suc, ◌+◌, ◌-◌, ◌*◌, ◌<◌, Bool, true, false, cond, T, ltb, ◌⊎◌, List, [], ◌∷◌, map, length, Some, None, Option, sym, refl, ap, ◌∙◌, subst, inl, inr, ⊎_elim, arith}
 use mathlib.Core.List.{Memᴰ}
-use Rattle.std.proofs.lemmas.Bool.{cases_Bool, cond-true, cond-false, cases_cond}
-use Rattle.house.specs.Event.{Event, TookFrom, PutInto, Missed}
-use Rattle.house.specs.Machine.{Hw, Up, Mid, Leaf, Step, Steps, none, more, known, drop_one, up, mid, leaf, less_up, less_mid, less_leaf, flies, fails, takes, puts, misses, frame_in, may_write, with_mem, put}
+use Rattle.std.proofs.lemmas.Bool.{cond-true, cond-false, cases_cond}
+use Rattle.house.specs.Event.{Event, TookFrom}
+use Rattle.house.specs.Machine.{Mid, Leaf, Steps, none, more, known, drop_one, up, mid, leaf, less_up, less_mid, less_leaf, flies, fails, takes, puts, misses, frame_in}
 use Rattle.simulator.specs.declared.rows.Note.{Note}
 use Rattle.simulator.specs.Lists.{learnt, device_in, place_in, value_in, among}
 use Rattle.simulator.specs.Notes.{event_of}
 use Rattle.simulator.specs.Store.{mem_of}
 use Rattle.simulator.specs.Parts.{Parts, hw_of, seen_of, Goes, up_of, mid_of, leaf_of, noted}
 use Rattle.simulator.specs.Effects.{Same, TookAt, PutAt, MissedAt}
-use Rattle.simulator.proofs.Asked.{steps_then}
 use Rattle.simulator.proofs.Forgets.{keeping, steps_at}
 
 pub truly : {b : Bool} → b ≡ true → T b

@@ -1,6 +1,6 @@
 -- What one access or one miss does to the parts, if it happens.
 -- Assumes nothing.
-use Rattle.std.specs.Prelude.{◌≡◌, ℕ, ◌<◌, Bool, true, false, not, T, ◌⊎◌, List, ◌∷◌, Some, None, Option}
+use Rattle.std.specs.Prelude.{◌≡◌, ℕ, Bool, true, false, not, T, ◌⊎◌, ◌∷◌, Some, None, Option}
 use mathlib.Core.List.{Memᴰ}
 use Rattle.house.specs.Event.{TookFrom, PutInto, Missed}
 use Rattle.house.specs.Machine.{with_mem, put, frame_in, may_write, walked}

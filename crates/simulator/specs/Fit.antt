@@ -1,6 +1,6 @@
 -- Of what is lent, what a machine can be made of.
 -- Assumes nothing.
-use Rattle.std.specs.Prelude.{◌≡◌, ℕ, ◌+◌, ◌*◌, ◌%◌, ◌<◌, ◌≤◌, ◌⊎◌, List, length, slice_index_or}
+use Rattle.std.specs.Prelude.{◌≡◌, ℕ, ◌%◌, ◌<◌, ◌≤◌, ◌⊎◌, List, length, slice_index_or}
 use Rattle.simulator.specs.declared.rows.Device.{Device}
 use Rattle.simulator.specs.declared.lent.Unfit.{Unfit}
 use Rattle.simulator.specs.declared.lent.Unfit.TheVariants.{Frames, Spaces, Devices, Numbers, Log, Room}

@@ -1,6 +1,6 @@
 -- What is handed over for a line of a script.
 -- Assumes nothing.
-use Rattle.std.specs.Prelude.{◌≡◌, ℕ, Bool, true, false, List, [], ◌∷◌, Some, MatchBool}
+use Rattle.std.specs.Prelude.{◌≡◌, ℕ, Bool, true, false, List, ◌∷◌, Some, MatchBool}
 use Rattle.house.specs.declared.Call.{Call}
 use Rattle.house.specs.declared.Call.TheVariants as call
 use Rattle.house.specs.declared.Answer.{Answer}

@@ -1,6 +1,6 @@
 -- A list in the front of an array, the newest first, and what becomes of it.
 -- Assumes nothing.
-use Rattle.std.specs.Prelude.{ℕ, zero, suc, ◌/◌, ◌%◌, Bool, true, false, cond, ◌||◌, List, [], ◌∷◌, ◌==◌, nat_lt, slice_index_or}
+use Rattle.std.specs.Prelude.{ℕ, zero, suc, ◌/◌, ◌%◌, Bool, false, cond, ◌||◌, List, [], ◌∷◌, ◌==◌, nat_lt, slice_index_or}
 
 -- the first n of xs, the latest first; d stands for what is past the end
 unfoldable pub newest : {A : Type 0} → A → List A → ℕ → List A

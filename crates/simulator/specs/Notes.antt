@@ -1,6 +1,6 @@
 -- What a row of the log means, and how many events a row of events still owes.
 -- Assumes nothing.
-use Rattle.std.specs.Prelude.{ℕ, zero, suc, ◌-◌, ◌%◌, Bool, true, false, cond, List, [], ◌∷◌, ◌==◌}
+use Rattle.std.specs.Prelude.{ℕ, ◌-◌, Bool, true, false, cond, List, [], ◌∷◌, ◌==◌}
 use Rattle.house.specs.declared.Call.{Call}
 use Rattle.house.specs.declared.Call.TheVariants.{Get, Free, Give, Open, Close, Regs, Lend, Recall, End}
 use Rattle.house.specs.declared.Answer.{Answer}

@@ -1,6 +1,6 @@
 -- The machine without references: what its hardware and its events are.
 -- Assumes nothing.
-use Rattle.std.specs.Prelude.{ℕ, Bool, List, [], ◌∷◌, map, length}
+use Rattle.std.specs.Prelude.{ℕ, Bool, List, map, length}
 use Rattle.house.specs.Event.{Event}
 use Rattle.house.specs.Machine.{Hw, Up, Mid, Leaf, Steps, Runs}
 use Rattle.simulator.specs.declared.rows.Note.{Note}

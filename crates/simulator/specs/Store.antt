@@ -1,6 +1,6 @@
 -- Memory and spaces as words: what each word is.
 -- Assumes nothing.
-use Rattle.std.specs.Prelude.{◌≡◌, ℕ, zero, suc, ◌+◌, ◌-◌, ◌*◌, ◌%◌, ◌<◌, Bool, true, false, cond, ◌&&◌, List, [], ◌∷◌, length, ◌==◌, nat_le, nat_lt, slice_index, slice_index_or}
+use Rattle.std.specs.Prelude.{◌≡◌, ℕ, ◌+◌, ◌-◌, ◌*◌, ◌%◌, ◌<◌, cond, List, ◌==◌, nat_le, nat_lt, slice_index, slice_index_or}
 use Rattle.house.specs.Machine.{Shown, Nothing, Frame, Registers}
 use Rattle.simulator.specs.declared.spaces.View.{View}
 use Rattle.simulator.specs.declared.spaces.View.TheVariants.{Hidden, Page, Regs}

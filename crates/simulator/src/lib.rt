@@ -1,4 +1,6 @@
 // A machine in memory that plays all the tricks that the unit and devices may play.
+#![tactic(auto)]
+
 pub mod board;
 pub mod dice;
 pub mod ends;

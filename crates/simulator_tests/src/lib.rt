@@ -1,3 +1,5 @@
+#![tactic(auto)]
+
 // Tests of the machine in memory, in a crate of their own so that the machine is proved once.
 #[cfg(test)]
 mod ends;

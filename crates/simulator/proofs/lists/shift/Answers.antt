@@ -1,4 +1,4 @@
-use Rattle.std.proofs.Common.{◌≡◌, ℕ, ◌-◌, subst, arith}
+use Rattle.std.proofs.Common.{arith}
 use Rattle.simulator.proofs.lists.shift.Goals as goal
 use Rattle.simulator.proofs.Listed.{newest_shifted, moved_more}
 

@@ -1,8 +1,5 @@
-use Rattle.std.proofs.Common.{◌≡◌, List, ◌∷◌, map, Some, sym, refl, ap, ◌∙◌, subst, arith}
-use Rattle.house.specs.Event.{Event}
-use Rattle.house.specs.Machine.{Comes}
+use Rattle.std.proofs.Common.{refl, arith}
 use Rattle.script.specs.declared.forms.Line.TheVariants as line
-use Rattle.simulator.specs.Notes.{event_of}
 use Rattle.simulator.specs.View.{parts_of}
 use Rattle.simulator.proofs.Lines.{beyond_range, asked_comes}
 use Rattle.simulator.proofs.Owed.{room_asked}

@@ -1,4 +1,4 @@
-use Rattle.std.proofs.Common.{◌<◌, ap, arith}
+use Rattle.std.proofs.Common.{ap, arith}
 use Rattle.script.specs.declared.forms.Line.TheVariants as line
 use Rattle.simulator.specs.Notes.{aside}
 use Rattle.simulator.specs.View.{parts_of}

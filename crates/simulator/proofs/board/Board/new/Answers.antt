@@ -1,4 +1,4 @@
-use Rattle.std.proofs.Common.{arith, rules}
+use Rattle.std.proofs.Common.{arith}
 use Rattle.simulator.proofs.Owed.{room_start}
 use Rattle.simulator.proofs.board.Board.new.Goals as goal
 

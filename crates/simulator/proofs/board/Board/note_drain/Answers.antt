@@ -1,6 +1,5 @@
-use Rattle.std.proofs.Common.{◌≡◌, true, refl, ap, ◌∙◌, arith}
+use Rattle.std.proofs.Common.{◌≡◌, true, ap, arith}
 use Rattle.simulator.specs.Notes.{aside, event_of}
-use Rattle.house.specs.Event.{Drained}
 use Rattle.simulator.specs.View.{parts_of}
 use Rattle.simulator.proofs.Owed.{room_asking}
 use Rattle.simulator.proofs.board.Board.note_drain.Goals as goal

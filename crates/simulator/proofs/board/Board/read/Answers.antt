@@ -1,7 +1,7 @@
 use Rattle.std.proofs.Common.{refl, arith}
 use Rattle.script.specs.declared.forms.Line.TheVariants as line
 use Rattle.simulator.specs.View.{parts_of}
-use Rattle.simulator.proofs.Lines.{beyond_range, over_same}
+use Rattle.simulator.proofs.Lines.{beyond_range}
 use Rattle.simulator.proofs.Devices.{read_missed, read_took, both_same}
 use Rattle.simulator.proofs.board.Board.read.Goals as goal
 

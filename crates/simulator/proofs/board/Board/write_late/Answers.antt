@@ -1,4 +1,3 @@
-use Rattle.std.proofs.Common.{arith}
 use Rattle.house.specs.Machine.{none}
 use Rattle.simulator.specs.View.{parts_of}
 use Rattle.simulator.proofs.Tricks.{put_by_goes}

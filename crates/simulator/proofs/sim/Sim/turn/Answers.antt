@@ -1,6 +1,6 @@
 use Rattle.house.specs.Machine.{rest}
 use Rattle.simulator.specs.View.{parts_of}
-use Rattle.simulator.proofs.Lines.{steps_run, runs_then, ran_comes, same_ran}
+use Rattle.simulator.proofs.Lines.{steps_run, ran_comes, same_ran}
 use Rattle.simulator.proofs.sim.Sim.turn.Goals as goal
 
 pub returns-in-Line-New : goal.returns-in-Line-New
