@@ -1,11 +1,12 @@
 -- Small facts that the lemmas on the relation share: views with one part changed, a word put into memory, entries and pages, what
 -- is not known of a device, and uses told apart. Assumes nothing.
-use Rattle.std.proofs.Common.{◌≡◌, ℕ, suc, ◌+◌, ◌-◌, ◌*◌, ◌/◌, ◌%◌, ◌<◌, Bool, true, false, not, ◌&&◌, ◌||◌, T, eqb, refl, arith, eqb→eq}
+use Rattle.std.proofs.Common.{◌≡◌, ℕ, suc, ◌+◌, ◌-◌, ◌*◌, ◌/◌, ◌%◌, ◌<◌, Bool, true, false, not, ◌&&◌, ◌||◌, T, eqb, refl, arith, eqb→eq, List, sym, ap, ◌∙◌}
+use mathlib.Core.List.{Memᴰ}
 use Rattle.std.proofs.lemmas.Bool.{eq-eqb, ne_eqb, cond_both, eqb-true, and_right, and_parts}
-use Rattle.house.specs.Machine.{put, frame_in, may_write}
+use Rattle.house.specs.Machine.{put, frame_in, may_write, Up, Mid, Leaf, no_up, no_mid, no_leaf}
 use Rattle.house.specs.Meaning.{Leaving, Use, House, TableOf, Idle, Of, Dev, reaches, is_idle}
 use Rattle.house.specs.Sound.{View, entry_of}
-use Rattle.house.proofs.Shelf.{both}
+use Rattle.house.proofs.Shelf.{both, differ}
 
 -- a view with other uses, another row of devices, other slots
 abbrev pub with_uses : (ℕ → Use) → View → View
@@ -46,6 +47,34 @@ entry_some g false = omega arith
 
 pub page_back : (p : ℕ) → 512 * (p / 512) + p % 512 ≡ p
 page_back p = omega arith
+
+pub page_slot : (p : ℕ) → p < 262144 → p / 512 < 512
+page_slot p l = omega arith
+
+pub page_place : (p : ℕ) → p % 512 < 512
+page_place p = omega arith
+
+pub slot_of_page : (i j : ℕ) → j < 512 → (512 * i + j) / 512 ≡ i
+slot_of_page i j l = omega arith
+
+pub place_of_page : (i j : ℕ) → j < 512 → (512 * i + j) % 512 ≡ j
+place_of_page i j l = omega arith
+
+-- nothing of a device is known
+pub up_gone : (d : ℕ) (u : Up) (us : List Up) → T (no_up d us) → Memᴰ u us → u.dev ≡ d → ⊥
+unfolding no_up
+up_gone d u _ t (Memᴰ.head {x = x} {xs = xs} e) h = differ d x.dev (both (not (eqb d x.dev)) (no_up d xs) t).0 (sym h ∙ ap (λ (y : Up). y.dev) e)
+up_gone d u _ t (Memᴰ.tail {x = x} {xs = xs} m) h = up_gone d u xs (both (not (eqb d x.dev)) (no_up d xs) t).1 m h
+
+pub mid_gone : (d : ℕ) (u : Mid) (us : List Mid) → T (no_mid d us) → Memᴰ u us → u.dev ≡ d → ⊥
+unfolding no_mid
+mid_gone d u _ t (Memᴰ.head {x = x} {xs = xs} e) h = differ d x.dev (both (not (eqb d x.dev)) (no_mid d xs) t).0 (sym h ∙ ap (λ (y : Mid). y.dev) e)
+mid_gone d u _ t (Memᴰ.tail {x = x} {xs = xs} m) h = mid_gone d u xs (both (not (eqb d x.dev)) (no_mid d xs) t).1 m h
+
+pub leaf_gone : (d : ℕ) (u : Leaf) (us : List Leaf) → T (no_leaf d us) → Memᴰ u us → u.dev ≡ d → ⊥
+unfolding no_leaf
+leaf_gone d u _ t (Memᴰ.head {x = x} {xs = xs} e) h = differ d x.dev (both (not (eqb d x.dev)) (no_leaf d xs) t).0 (sym h ∙ ap (λ (y : Leaf). y.dev) e)
+leaf_gone d u _ t (Memᴰ.tail {x = x} {xs = xs} m) h = leaf_gone d u xs (both (not (eqb d x.dev)) (no_leaf d xs) t).1 m h
 
 -- uses
 pub idle_is : (u : Use) → T (is_idle u) → u ≡ Idle

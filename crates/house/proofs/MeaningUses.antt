@@ -89,6 +89,10 @@ same_use a = record { owned = λ c v t. t; lent = λ d p t. t }
 pub fewer_then : (a b c : Use) → Fewer a b → Fewer b c → Fewer a c
 fewer_then a b c p q = record { owned = λ w v t. p.owned w v (q.owned w v t); lent = λ d k t. p.lent d k (q.lent d k t) }
 
+pub nothing_at : (d p : ℕ) → T (is_at d p Home) → ⊥
+unfolding is_at
+nothing_at d p t = t
+
 homing : (d : ℕ) (l : Loan) (e p : ℕ) → T (is_at e p (home_from d l)) → T (is_at e p l)
 unfolding is_at home_from
 homing d Home e p = λ t. t

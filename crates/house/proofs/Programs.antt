@@ -131,3 +131,8 @@ pub comes_keep :
 comes_keep {s = s} sound words shape shown run (Comes.comes who c b r) =
     let a = runs_keep sound words shape shown run r in
     record { small = b; word = a.word; run = Run.asks who c a.run; sound = a.sound; words = a.words; same = same_allowed 2048 a.same; quiet = a.quiet }
+
+pub over_keeps :
+    {can : Call → Bool} {start : State} {t : Tables} {s : State} {h : Hw} {es : List Event} {j : Hw} {gs : List Event} →
+    SoundAt t (view_of s) h → Words (view_of s) s.word h.mem → Shape s h → ShownAt s h.space → Run can start es s Quiet → Comes h es None j gs → Ran can start t s h j gs
+over_keeps sound words shape shown run c = runs_keep sound words shape shown run (comes_none c)

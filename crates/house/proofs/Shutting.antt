@@ -3,13 +3,13 @@ use Rattle.std.proofs.Common.{◌≡◌, ℕ, suc, ◌+◌, ◌*◌, ◌/◌, Bo
 use lib.Dec.{not_T}
 use Rattle.std.proofs.lemmas.Bool.{cases_eq, ne_eqb, cond_both}
 use Rattle.house.specs.Machine.{Up, Mid, Leaf, frame_in, no_up, no_mid, no_leaf}
-use Rattle.house.specs.declared.Call.TheVariants.{Close, End}
-use Rattle.house.specs.Meaning.{Loan, Home, Lent, Leaving, Use, House, TableOf, Idle, Of, Dev, Shut, Opened, Closing, State, loan_of, reaches, is_shut, map_loan, home_from, no_table, closing, shut, shutting, loosens, any, owner_is, device_of}
+use Rattle.house.specs.declared.Call.TheVariants.{Close, End, Recall}
+use Rattle.house.specs.Meaning.{Loan, Home, Lent, Leaving, Use, House, TableOf, Idle, Of, Dev, Shut, Opened, Closing, State, loan_of, reaches, is_shut, map_loan, home_from, no_table, closing, shut, shutting, loosens, any, owner_is, device_of, frame_of, loan}
 use Rattle.house.specs.Sound.{Tables, View, Held, Good, Sound, view_of}
 use Rattle.house.proofs.Facts.{with_devs, reached_at}
 use Rattle.house.proofs.Known.{no_up_not, no_mid_not, no_leaf_not}
 use Rattle.house.proofs.Shelf.{both, pair, differ, at_one, there}
-use Rattle.house.proofs.Uses.{good_to, leaving_all, leaving_where, pageless, lent}
+use Rattle.house.proofs.Uses.{good_to, leaving_all, leaving_where, pageless, lent, use_leaving}
 
 -- what a shut device leaves: whoever else reached a frame still does, tables of others stay, nothing is lent to it
 others : (d : ℕ) (l : Loan) (a p : ℕ) (w : Bool) → (a ≡ d → ⊥) → T (reaches a p w l) → T (reaches a p w (home_from d l))
@@ -151,6 +151,11 @@ pub loosened_close : {t : Tables} (s : State) {mem : ℕ → ℕ → ℕ} {live 
     (c d : ℕ) → Sound t (view_of (loosens s c (Close d))) mem live ups mids leaves flying
 unfolding loosens
 loosened_close s sound c d = leaving_all sound d
+
+pub loosened_recall : {t : Tables} (s : State) {mem : ℕ → ℕ → ℕ} {live : Bool} {ups : List Up} {mids : List Mid} {leaves flying : List Leaf} → Sound t (view_of s) mem live ups mids leaves flying →
+    (c x : ℕ) → s.what (frame_of s c x) ≡ Of c x (loan s c x) → Sound t (view_of (loosens s c (Recall x))) mem live ups mids leaves flying
+unfolding loosens
+loosened_recall s sound c x is = use_leaving sound (frame_of s c x) c x (loan s c x) is
 
 pub loosened_end : {t : Tables} (s : State) {mem : ℕ → ℕ → ℕ} {live : Bool} {ups : List Up} {mids : List Mid} {leaves flying : List Leaf} → Sound t (view_of s) mem live ups mids leaves flying →
     (c w : ℕ) → Sound t (view_of (loosens s c (End w))) mem live ups mids leaves flying

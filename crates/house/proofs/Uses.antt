@@ -39,6 +39,10 @@ pub good_leaving : (v : View) (g c u d p : ℕ) (w : Bool) → g < v.frames → 
 unfolding loan_of reaches
 good_leaving v g c u d p w b is = good_at v g d p w b (λ x h. subst (λ (y : Use). T (reaches d p x (loan_of y))) (sym is) (reached_here d p (w || not x) h))
 
+pub good_lent : (v : View) (g c u d p : ℕ) (w : Bool) → g < v.frames → v.what g ≡ Of c u (Lent d p w) → Good v d p (entry_of g w)
+unfolding loan_of reaches
+good_lent v g c u d p w b is = good_at v g d p w b (λ x h. subst (λ (y : Use). T (reaches d p x (loan_of y))) (sym is) (reached_here d p (w || not x) h))
+
 -- idle, or somebody's at home
 abbrev pub unlent : Use → Bool
 unlent House = false
