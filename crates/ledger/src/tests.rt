@@ -15,15 +15,14 @@ use crate::slots::low_at;
 use crate::sweeps::{home_all, leave_all};
 use crate::tables::{add_lower, open_device};
 use crate::{Device, Loan, Place, Use, Which};
-use std::process::Abort;
 
-fn packs(rt: &impl Abort, used: Use, low: u64, high: u64)
+// Whether a use is packed into these words, and read and unpacked from them.
+fn packs(used: Use, low: u64, high: u64) -> bool
     requires { UseFits used }
 {
     let record = Record::pack(used);
-    assert!(rt; record.low == low && record.high == high);
-    assert!(rt; same(read(low, high), used));
-    assert!(rt; same(record.unpack(), used));
+    let packed = record.low == low && record.high == high;
+    packed && same(read(low, high), used) && same(record.unpack(), used)
 }
 
 fn same(a: Use, b: Use) -> bool {
@@ -97,114 +96,123 @@ fn same_loan(a: Loan, b: Loan) -> bool {
 
 #[test]
 fn records(rt: HostRuntime) {
-    packs(&rt, Use::House, 0, 0);
-    packs(&rt, Use::Idle, 2, 0);
-    packs(
-        &rt,
-        Use::TableOf {
-            device: 0,
-            which: Which::Upper,
-        },
-        1,
-        0,
+    assert!(rt; packs(Use::House, 0, 0));
+    assert!(rt; packs(Use::Idle, 2, 0));
+    assert!(rt;
+        packs(
+            Use::TableOf {
+                device: 0,
+                which: Which::Upper,
+            },
+            1,
+            0,
+        )
     );
-    packs(
-        &rt,
-        Use::TableOf {
-            device: 31,
-            which: Which::Upper,
-        },
-        125,
-        0,
+    assert!(rt;
+        packs(
+            Use::TableOf {
+                device: 31,
+                which: Which::Upper,
+            },
+            125,
+            0,
+        )
     );
-    packs(
-        &rt,
-        Use::TableOf {
-            device: 31,
-            which: Which::Lower(511),
-        },
-        125,
-        512,
+    assert!(rt;
+        packs(
+            Use::TableOf {
+                device: 31,
+                which: Which::Lower(511),
+            },
+            125,
+            512,
+        )
     );
-    packs(
-        &rt,
-        Use::PageOf {
-            who: 0,
-            place: 0,
-            loan: Loan::Home,
-        },
-        3,
-        0,
+    assert!(rt;
+        packs(
+            Use::PageOf {
+                who: 0,
+                place: 0,
+                loan: Loan::Home,
+            },
+            3,
+            0,
+        )
     );
-    packs(
-        &rt,
-        Use::PageOf {
-            who: 31,
-            place: 1023,
-            loan: Loan::Home,
-        },
-        131071,
-        0,
+    assert!(rt;
+        packs(
+            Use::PageOf {
+                who: 31,
+                place: 1023,
+                loan: Loan::Home,
+            },
+            131071,
+            0,
+        )
     );
 }
 
 #[test]
 fn loans(rt: HostRuntime) {
-    packs(
-        &rt,
-        Use::PageOf {
-            who: 1,
-            place: 2,
-            loan: Loan::Lent {
-                device: 0,
-                page: 0,
-                writes: false,
+    assert!(rt;
+        packs(
+            Use::PageOf {
+                who: 1,
+                place: 2,
+                loan: Loan::Lent {
+                    device: 0,
+                    page: 0,
+                    writes: false,
+                },
             },
-        },
-        4107,
-        1,
+            4107,
+            1,
+        )
     );
-    packs(
-        &rt,
-        Use::PageOf {
-            who: 1,
-            place: 2,
-            loan: Loan::Lent {
-                device: 3,
-                page: 5,
-                writes: true,
+    assert!(rt;
+        packs(
+            Use::PageOf {
+                who: 1,
+                place: 2,
+                loan: Loan::Lent {
+                    device: 3,
+                    page: 5,
+                    writes: true,
+                },
             },
-        },
-        4107,
-        3145750,
+            4107,
+            3145750,
+        )
     );
-    packs(
-        &rt,
-        Use::PageOf {
-            who: 1,
-            place: 2,
-            loan: Loan::Leaving {
-                device: 3,
-                page: 5,
-                writes: false,
+    assert!(rt;
+        packs(
+            Use::PageOf {
+                who: 1,
+                place: 2,
+                loan: Loan::Leaving {
+                    device: 3,
+                    page: 5,
+                    writes: false,
+                },
             },
-        },
-        4107,
-        3145751,
+            4107,
+            3145751,
+        )
     );
-    packs(
-        &rt,
-        Use::PageOf {
-            who: 1,
-            place: 2,
-            loan: Loan::Leaving {
-                device: 31,
-                page: 262143,
-                writes: true,
+    assert!(rt;
+        packs(
+            Use::PageOf {
+                who: 1,
+                place: 2,
+                loan: Loan::Leaving {
+                    device: 31,
+                    page: 262143,
+                    writes: true,
+                },
             },
-        },
-        4107,
-        33554432,
+            4107,
+            33554432,
+        )
     );
 }
 
