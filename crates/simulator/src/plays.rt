@@ -43,8 +43,7 @@ pub fn play<S: Script>(board: &mut Board, room: &mut [u64], script: &mut S) -> b
         ended: Ended::Not,
     };
     rounds(&mut sim, room, u64::MAX);
-    let ended = sim.ended;
-    match ended {
+    match sim.ended {
         Ended::New => true,
         Ended::Full => play_over(script),
         Ended::Script | Ended::Not => false,
