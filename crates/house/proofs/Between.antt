@@ -1,10 +1,12 @@
 -- What holds between calls: at the start, while programs run, and after an answer.
-use Rattle.std.proofs.Common.{◌≡◌, ℕ, ◌<◌, ◌≤◌, Bool, not, T, List, [], ◌∷◌, Some, sym, refl, ap, ◌∙◌, subst, lit≤}
+use Rattle.std.proofs.Common.{◌≡◌, ℕ, ◌<◌, ◌≤◌, Bool, not, T, List, [], ◌∷◌, Some, sym, refl, ap, ◌∙◌, subst, lit≤, arith}
 use Rattle.ledger.specs.View as ledger
 use Rattle.ledger.specs.Consistent.{Consistent}
 use Rattle.house.specs.declared.Call.{Call}
 use Rattle.house.specs.declared.Answer.{Answer}
 use Rattle.house.specs.declared.Answer.TheVariants.{Done, No}
+use Rattle.house.specs.declared.refusals.Refusal.{Refusal}
+use Rattle.house.specs.declared.refusals.Refusal.TheVariants.{OutOfRange, NoPage, Occupied, WrongLoan, NotYours, Held, NoFrame, NotPermitted, NotBuilt}
 use Rattle.house.specs.Event.{Event, Asked, Told}
 use Rattle.house.specs.Machine.{Hw, Shown, Comes, Runs, Steps, allowed}
 use Rattle.house.specs.Meaning
@@ -12,6 +14,8 @@ use Rattle.house.specs.Meaning.{State, Use, House, Idle, TableOf, Of, Loan, Lent
 use Rattle.house.specs.Promise.{can, start_of}
 use Rattle.house.specs.Sound.{Shaped, Same, is_page}
 use Rattle.house.specs.Serving.{Fits, Progress, nothing_cut, Holds, Keeps, Begins}
+use Rattle.house.specs.Refusals.{number_of}
+use Rattle.house.proofs.Built.{all_built}
 use Rattle.house.proofs.Rooms.{Inside, inside_room, shown_right}
 use Rattle.house.proofs.Steps.{steps_keep, house_home, shape_same}
 use Rattle.house.proofs.Programs.{comes_some, runs_keep}
@@ -170,7 +174,19 @@ keeps_refused k b r =
       forgot = a.forgot;
     }) tt
 
+-- the number of a refusal is none that says yes
+numbered : (e : Refusal) → 0 < number_of e
+numbered OutOfRange = omega arith
+numbered NoPage = omega arith
+numbered Occupied = omega arith
+numbered WrongLoan = omega arith
+numbered NotYours = omega arith
+numbered Held = omega arith
+numbered NoFrame = omega arith
+numbered NotPermitted = omega arith
+numbered NotBuilt = omega arith
+
 -- by the number that the meaning has for it
-pub keeps_why : {room : List ℕ} {who : ℕ} {c : Call} {h : Hw} {es : List Event} (k : ℕ) → T (can c) → (b : Begins room who c h es) → Meaning.why b.holds.state who c ≡ k → 0 < k → Keeps room Quiet h (Told who c (No k) ∷ es)
-keeps_why {room} {who} {c} {h} {es} k t b e lt =
-    keeps_refused k b (subst (λ (z : ℕ). Run can (start_of h) es b.holds.state (Over who c (No z))) e (Meaning.refused b.holds.run t (subst (λ (z : ℕ). 0 < z) (sym e) lt)))
+pub keeps_why : {room : List ℕ} {who : ℕ} {c : Call} {h : Hw} {es : List Event} (e : Refusal) (b : Begins room who c h es) → Meaning.why b.holds.state who c ≡ number_of e → Keeps room Quiet h (Told who c (No (number_of e)) ∷ es)
+keeps_why {who = who} {c = c} {h = h} {es = es} e b q =
+    keeps_refused (number_of e) b (subst (λ (z : ℕ). Run can (start_of h) es b.holds.state (Over who c (No z))) q (Meaning.refused b.holds.run (all_built c) (subst (λ (z : ℕ). 0 < z) (sym q) (numbered e))))

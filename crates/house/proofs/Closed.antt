@@ -41,8 +41,8 @@ owner_meant c (device.Closing w) = refl
 loan_leaving : (d : ℕ) (l : loans.Loan) → leaving_from d (loan_meant l) ≡ loan_meant (tests.leaving_from d l)
 unfolding leaving_from loan_meant
 loan_leaving d loan.Home = refl
-loan_leaving d (loan.Lent e p w) = meant_choice loan_meant (eqb d e) (loan.Leaving e p w) (loan.Lent e p w)
-loan_leaving d (loan.Leaving e p w) = refl
+loan_leaving d (loan.Lent m) = meant_choice loan_meant (eqb d m.device) (loan.Leaving m) (loan.Lent m)
+loan_leaving d (loan.Leaving m) = refl
 
 pub meant_leaving : (d : ℕ) (x : uses.Use) → map_loan (leaving_from d) (use_meant x) ≡ use_meant (tests.map_loan (tests.leaving_from d) x)
 unfolding map_loan use_meant
@@ -54,8 +54,8 @@ meant_leaving d (used.PageOf a b l) = ap (Of a b) (loan_leaving d l)
 loan_home : (d : ℕ) (l : loans.Loan) → home_from d (loan_meant l) ≡ loan_meant (tests.home_from d l)
 unfolding home_from loan_meant
 loan_home d loan.Home = refl
-loan_home d (loan.Lent e p w) = meant_choice loan_meant (eqb d e) loan.Home (loan.Lent e p w)
-loan_home d (loan.Leaving e p w) = meant_choice loan_meant (eqb d e) loan.Home (loan.Leaving e p w)
+loan_home d (loan.Lent m) = meant_choice loan_meant (eqb d m.device) loan.Home (loan.Lent m)
+loan_home d (loan.Leaving m) = meant_choice loan_meant (eqb d m.device) loan.Home (loan.Leaving m)
 
 pub meant_shut : (d : ℕ) (x : uses.Use) → no_table d (map_loan (home_from d) (use_meant x)) ≡ use_meant (tests.no_table d (tests.map_loan (tests.home_from d) x))
 unfolding no_table map_loan use_meant
@@ -67,13 +67,13 @@ meant_shut d (used.PageOf a b l) = ap (Of a b) (loan_home d l)
 -- what was let go before the device is shut or closing makes no difference then
 left_home : (d : ℕ) (l : loans.Loan) → tests.home_from d (tests.leaving_from d l) ≡ tests.home_from d l
 left_home d loan.Home = refl
-left_home d (loan.Lent e p w) = cond_both (eqb d e) (loan.Leaving e p w) (loan.Lent e p w) (λ z. tests.home_from d z ≡ tests.home_from d (loan.Lent e p w)) (λ q. rw q) (λ q. refl)
-left_home d (loan.Leaving e p w) = refl
+left_home d (loan.Lent m) = cond_both (eqb d m.device) (loan.Leaving m) (loan.Lent m) (λ z. tests.home_from d z ≡ tests.home_from d (loan.Lent m)) (λ q. rw q) (λ q. refl)
+left_home d (loan.Leaving m) = refl
 
 left_leaving : (d : ℕ) (l : loans.Loan) → tests.leaving_from d (tests.leaving_from d l) ≡ tests.leaving_from d l
 left_leaving d loan.Home = refl
-left_leaving d (loan.Lent e p w) = cond_both (eqb d e) (loan.Leaving e p w) (loan.Lent e p w) (λ z. tests.leaving_from d z ≡ z) (λ q. refl) (λ q. rw q)
-left_leaving d (loan.Leaving e p w) = refl
+left_leaving d (loan.Lent m) = cond_both (eqb d m.device) (loan.Leaving m) (loan.Lent m) (λ z. tests.leaving_from d z ≡ z) (λ q. refl) (λ q. rw q)
+left_leaving d (loan.Leaving m) = refl
 
 left_shut : (d : ℕ) (x : uses.Use) → tests.no_table d (tests.map_loan (tests.home_from d) (tests.map_loan (tests.leaving_from d) x)) ≡ tests.no_table d (tests.map_loan (tests.home_from d) x)
 left_shut d used.House = refl

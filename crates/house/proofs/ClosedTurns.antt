@@ -2,6 +2,7 @@
 use Rattle.std.proofs.Common.{◌≡◌, ℕ, zero, suc, ◌+◌, ◌<◌, ◌≤◌, Bool, true, false, not, ◌&&◌, ◌||◌, T, eqb, List, [], ◌∷◌, sym, refl, ap, ◌∙◌, subst, ⊎_elim, add-one, arith}
 use mathlib.Core.Path.{fun_ext}
 use lib.Dec.{not_T}
+use Rattle.std.proofs.Math.Bool.{and_comm}
 use Rattle.std.proofs.lemmas.Bool.{cases_eq, ne_eqb, eq-eqb}
 use Rattle.ledger.specs.View as ledger
 use Rattle.ledger.specs.Uses.{owner_is}
@@ -89,8 +90,8 @@ module _ {owns : ℕ → Bool} {c : ℕ} {v : ledger.View} {h : Hw} {es : List E
         devices = x.devices ∙ a.devices;
       }
 
-  pub closed_turn : {o said : Bool} → ClosedOne o c n u i fs u2 said j gs → o ≡ owns n → ClosedSoFar owns c v h es (n + 1) u2 (said && all) j gs
-  closed_turn {o} {said} x e = rw add-one (turn o said x e)
+  pub closed_turn : {o said : Bool} → ClosedOne o c n u i fs u2 said j gs → o ≡ owns n → ClosedSoFar owns c v h es (n + 1) u2 (all && said) j gs
+  closed_turn {o} {said} x e = rw (add-one, and_comm all said) (turn o said x e)
 
 -- how far a call has come after some of its devices
 abbrev pub cut_so_far : (ℕ → Bool) → ℕ → (ℕ → ℕ → Bool) → List ℕ → List ℕ → Progress

@@ -37,18 +37,18 @@ module _ (c d : ℕ) (mine gone mine2 gone2 : ℕ → Bool) (new : mine d ≡ fa
   module _ (yes' : gone2 d ≡ true) where
     loan_home : (l : Loan) → home_from d (closed_loan mine gone l) ≡ closed_loan mine2 gone2 l
     loan_home Home = refl
-    loan_home (Lent e p w) =
-        ⊎_elim (λ (q : e ≡ d). rw (q, new, now_mine, yes', eq-eqb d d refl))
-        (λ (n : e ≡ d → ⊥). rw (same_mine e n, same_gone e n) (
-        let z : home_from d (Leaving e p w) ≡ Leaving e p w = rw (ne_eqb d e (λ y. n (sym y))) in
-        fix_one (home_from d) (mine e) (cond (gone e) Home (Leaving e p w)) (Lent e p w) (fix_one (home_from d) (gone e) Home (Leaving e p w) refl z) (rw (ne_eqb d e (λ y. n (sym y))))
-        )) (cases_eq e d)
-    loan_home (Leaving e p w) =
-        ⊎_elim (λ (q : e ≡ d). rw (q, new, now_mine, yes', eq-eqb d d refl))
-        (λ (n : e ≡ d → ⊥). rw (same_mine e n, same_gone e n) (
-        let z : home_from d (Leaving e p w) ≡ Leaving e p w = rw (ne_eqb d e (λ y. n (sym y))) in
-        fix_one (home_from d) (mine e) (cond (gone e) Home (Leaving e p w)) (Leaving e p w) (fix_one (home_from d) (gone e) Home (Leaving e p w) refl z) z
-        )) (cases_eq e d)
+    loan_home (Lent m) =
+        ⊎_elim (λ (q : m.device ≡ d). rw (q, new, now_mine, yes', eq-eqb d d refl))
+        (λ (n : m.device ≡ d → ⊥). rw (same_mine m.device n, same_gone m.device n) (
+        let z : home_from d (Leaving m) ≡ Leaving m = rw (ne_eqb d m.device (λ y. n (sym y))) in
+        fix_one (home_from d) (mine m.device) (cond (gone m.device) Home (Leaving m)) (Lent m) (fix_one (home_from d) (gone m.device) Home (Leaving m) refl z) (rw (ne_eqb d m.device (λ y. n (sym y))))
+        )) (cases_eq m.device d)
+    loan_home (Leaving m) =
+        ⊎_elim (λ (q : m.device ≡ d). rw (q, new, now_mine, yes', eq-eqb d d refl))
+        (λ (n : m.device ≡ d → ⊥). rw (same_mine m.device n, same_gone m.device n) (
+        let z : home_from d (Leaving m) ≡ Leaving m = rw (ne_eqb d m.device (λ y. n (sym y))) in
+        fix_one (home_from d) (mine m.device) (cond (gone m.device) Home (Leaving m)) (Leaving m) (fix_one (home_from d) (gone m.device) Home (Leaving m) refl z) z
+        )) (cases_eq m.device d)
 
     use_shut : (x : Use) → no_table d (map_loan (home_from d) (closed_use mine gone x)) ≡ closed_use mine2 gone2 x
     use_shut House = refl
@@ -75,14 +75,14 @@ module _ (c d : ℕ) (mine gone mine2 gone2 : ℕ → Bool) (new : mine d ≡ fa
   module _ (no_yet : gone2 d ≡ false) where
     loan_leaving : (l : Loan) → leaving_from d (closed_loan mine gone l) ≡ closed_loan mine2 gone2 l
     loan_leaving Home = refl
-    loan_leaving (Lent e p w) =
-        ⊎_elim (λ (q : e ≡ d). rw (q, new, now_mine, no_yet, eq-eqb d d refl))
-        (λ (n : e ≡ d → ⊥). rw (same_mine e n, same_gone e n) (
-        fix_one (leaving_from d) (mine e) (cond (gone e) Home (Leaving e p w)) (Lent e p w) (fix_one (leaving_from d) (gone e) Home (Leaving e p w) refl refl) (rw (ne_eqb d e (λ y. n (sym y))))
-        )) (cases_eq e d)
-    loan_leaving (Leaving e p w) =
-        ⊎_elim (λ (q : e ≡ d). rw (q, new, now_mine, no_yet))
-        (λ (n : e ≡ d → ⊥). rw (same_mine e n, same_gone e n) (fix_one (leaving_from d) (mine e) (cond (gone e) Home (Leaving e p w)) (Leaving e p w) (fix_one (leaving_from d) (gone e) Home (Leaving e p w) refl refl) refl)) (cases_eq e d)
+    loan_leaving (Lent m) =
+        ⊎_elim (λ (q : m.device ≡ d). rw (q, new, now_mine, no_yet, eq-eqb d d refl))
+        (λ (n : m.device ≡ d → ⊥). rw (same_mine m.device n, same_gone m.device n) (
+        fix_one (leaving_from d) (mine m.device) (cond (gone m.device) Home (Leaving m)) (Lent m) (fix_one (leaving_from d) (gone m.device) Home (Leaving m) refl refl) (rw (ne_eqb d m.device (λ y. n (sym y))))
+        )) (cases_eq m.device d)
+    loan_leaving (Leaving m) =
+        ⊎_elim (λ (q : m.device ≡ d). rw (q, new, now_mine, no_yet))
+        (λ (n : m.device ≡ d → ⊥). rw (same_mine m.device n, same_gone m.device n) (fix_one (leaving_from d) (mine m.device) (cond (gone m.device) Home (Leaving m)) (Leaving m) (fix_one (leaving_from d) (gone m.device) Home (Leaving m) refl refl) refl)) (cases_eq m.device d)
 
     use_closing : (x : Use) → map_loan (leaving_from d) (closed_use mine gone x) ≡ closed_use mine2 gone2 x
     use_closing House = refl
@@ -118,8 +118,8 @@ module _ (c d : ℕ) (mine gone mine2 gone2 : ℕ → Bool) (new : mine d ≡ fa
 module _ (mine gone : ℕ → Bool) (none : (e : ℕ) → mine e ≡ false) where
   loan_none : (l : Loan) → closed_loan mine gone l ≡ l
   loan_none Home = refl
-  loan_none (Lent e p w) = rw (none e)
-  loan_none (Leaving e p w) = rw (none e)
+  loan_none (Lent m) = rw (none m.device)
+  loan_none (Leaving m) = rw (none m.device)
 
   use_none : (x : Use) → closed_use mine gone x ≡ x
   use_none House = refl

@@ -3,6 +3,7 @@ use Rattle.std.proofs.Common.{◌≡◌, ℕ, suc, ◌<◌, ◌≤◌, Bool, tru
 use Rattle.std.proofs.lemmas.Bool.{cases_eq, eq-eqb, ne_eqb, lt-ltb, lt-leb, le-leb, false≢true}
 use Rattle.ledger.specs.declared.Loan as loans
 use Rattle.ledger.specs.declared.Loan.TheVariants as loan
+use Rattle.ledger.specs.declared.mapping.Mapping.{Mapping}
 use Rattle.ledger.specs.declared.Use as uses
 use Rattle.ledger.specs.declared.Use.TheVariants as used
 use Rattle.ledger.specs.declared.Place.{Place}
@@ -43,7 +44,8 @@ use Rattle.house.proofs.Draining.{heard, holds_drain}
 use Rattle.house.proofs.Cutting.{cutting, Unlent, cut_root}
 use Rattle.house.proofs.Unmapped.{hiding_below, hides_hold, count_most}
 use Rattle.house.proofs.Closed.{owner_meant, meant_leaving, loosened_from, closed_left, kept_shut, kept_shutting, kept_unregistered, shut_sound}
-use Rattle.house.proofs.Built.{close_built}
+use Rattle.house.proofs.Built.{all_built}
+use Rattle.house.proofs.Mappings.{mapping}
 
 -- nothing speaks against a close
 pub close_allowed : {v : ledger.View} (s : State) → Kept v s → (c d : ℕ) → d < s.devices → tests.owner_is c (v.device d) ≡ true → why s c (Close d) ≡ 0
@@ -58,7 +60,7 @@ loosen_close {v} {p} {c} {d} {h} {es} lt o a =
     record {
       fits = a.fits;
       state = set_use (λ f. map_loan (leaving_from d) (s.what f)) s;
-      run = Meaning.loosened a.run (close_built d) (close_allowed s a.kept c d (subst (λ (z : ℕ). d < z) (sym a.shape.devices_are) lt) o);
+      run = Meaning.loosened a.run (all_built _) (close_allowed s a.kept c d (subst (λ (z : ℕ). d < z) (sym a.shape.devices_are) lt) o);
       shape = a.shape;
       drained_are = a.drained_are;
       undrained_are = a.undrained_are;
@@ -75,18 +77,18 @@ loosen_close {v} {p} {c} {d} {h} {es} lt o a =
 pub loosened_unlent : (v : ledger.View) (d : ℕ) → Unlent (loosened_from d v) d
 loosened_unlent v d f c u q w = go (v.used f)
   where
-    home_lent : loan.Home ≡ loan.Lent d q w → ⊥
+    home_lent : loan.Home ≡ loan.Lent (mapping d q w) → ⊥
     home_lent z = let y : ◌≡◌ {A = ℕ} 0 1 = cc in omega arith
 
-    gone : (e p : ℕ) (x : Bool) → loan.Leaving e p x ≡ loan.Lent d q w → ⊥
-    gone e p x z = let y : ◌≡◌ {A = ℕ} 0 1 = cc in omega arith
+    gone : (m : Mapping) → loan.Leaving m ≡ loan.Lent (mapping d q w) → ⊥
+    gone m z = let y : ◌≡◌ {A = ℕ} 0 1 = cc in omega arith
 
-    loans_go : (l : loans.Loan) → tests.leaving_from d l ≡ loan.Lent d q w → ⊥
+    loans_go : (l : loans.Loan) → tests.leaving_from d l ≡ loan.Lent (mapping d q w) → ⊥
     loans_go loan.Home z = home_lent z
-    loans_go (loan.Lent e p x) z = at_one (λ (y : loans.Loan). y ≡ loan.Lent d q w → ⊥) d e (loan.Leaving e p x) (loan.Lent e p x) (λ _. gone e p x) (λ n y. n (let k : e ≡ d = cc in sym k)) z
-    loans_go (loan.Leaving e p x) z = gone e p x z
+    loans_go (loan.Lent m) z = at_one (λ (y : loans.Loan). y ≡ loan.Lent (mapping d q w) → ⊥) d m.device (loan.Leaving m) (loan.Lent m) (λ _. gone m) (λ n y. n (let k : m.device ≡ d = cc in sym k)) z
+    loans_go (loan.Leaving m) z = gone m z
 
-    go : (x : uses.Use) → tests.map_loan (tests.leaving_from d) x ≡ used.PageOf c u (loan.Lent d q w) → ⊥
+    go : (x : uses.Use) → tests.map_loan (tests.leaving_from d) x ≡ used.PageOf c u (loan.Lent (mapping d q w)) → ⊥
     go used.House z = let y : ◌≡◌ {A = ℕ} 0 1 = cc in omega arith
     go (used.TableOf e x) z = let y : ◌≡◌ {A = ℕ} 0 1 = cc in omega arith
     go used.Idle z = let y : ◌≡◌ {A = ℕ} 0 1 = cc in omega arith
@@ -153,7 +155,7 @@ close_done true v {c} {d} {h} {es} co lt o a =
       fits = a.fits;
       state = shut d s;
       run = subst (λ (z : Bool). Meaning.Run can (start_of h) es (cond z (out Done (shut d s)) (out Later (shutting d s))).state (Over c (Close d) (cond z (out Done (shut d s)) (out Later (shutting d s))).answer)) y
-          (Meaning.acted 0 a.run (close_built d) w tt (left (is_in d s.drained) (is_in d s.undrained) (from_true (is_in d s.drained) y)));
+          (Meaning.acted 0 a.run (all_built _) w tt (left (is_in d s.drained) (is_in d s.undrained) (from_true (is_in d s.drained) y)));
       shape = a.shape;
       drained_are = a.drained_are;
       undrained_are = a.undrained_are;
@@ -175,7 +177,7 @@ close_done false v {c} {d} {h} {es} co lt o a =
       fits = a.fits;
       state = shutting d s;
       run = subst (λ (z : Bool). Meaning.Run can (start_of h) es (cond z (out Done (shut d s)) (out Later (shutting d s))).state (Over c (Close d) (cond z (out Done (shut d s)) (out Later (shutting d s))).answer)) y
-          (Meaning.acted 0 a.run (close_built d) w tt (right (is_in d s.drained) (is_in d s.undrained) n));
+          (Meaning.acted 0 a.run (all_built _) w tt (right (is_in d s.drained) (is_in d s.undrained) n));
       shape = a.shape;
       drained_are = a.drained_are;
       undrained_are = a.undrained_are;
@@ -204,13 +206,13 @@ close_refused {room} {who} {d} {n} {m} {h} {es} e q y b r = go e (subst (λ (z :
     s = b.holds.state
 
     go : (e : Refusal) → CloseRefused (ledger.view_of h.frames room) m who d e → Keeps room Quiet h (Told who (Close d) (No (number_of e)) ∷ es)
-    go OutOfRange x = keeps_why 1 (close_built d) b (rw (le-leb s.devices d (omega (arith, b.holds.shape.devices_are)))) (omega arith)
+    go OutOfRange x = keeps_why OutOfRange b (rw (le-leb s.devices d (omega (arith, b.holds.shape.devices_are))))
     go NoPage x = absurd x
     go Occupied x = absurd x
     go WrongLoan x = absurd x
     go NotYours x =
-        keeps_why 5 (close_built d) b
-        (rw (lt-leb s.devices d (omega (arith, b.holds.shape.devices_are, x.0)), ap (owner_is who) (b.holds.kept.devs_are d) ∙ owner_meant who ((ledger.view_of h.frames room).device d) ∙ x.1)) (omega arith)
+        keeps_why NotYours b
+        (rw (lt-leb s.devices d (omega (arith, b.holds.shape.devices_are, x.0)), ap (owner_is who) (b.holds.kept.devs_are d) ∙ owner_meant who ((ledger.view_of h.frames room).device d) ∙ x.1))
     go Held x = absurd x
     go NoFrame x = absurd x
     go NotPermitted x = absurd x

@@ -1,7 +1,8 @@
 -- The upper table of a device is taken out of frame 0 while a call is under way.
-use Rattle.std.proofs.Common.{◌≡◌, ℕ, suc, Bool, true, false, cond, not, ◌||◌, T, eqb, List, sym, refl, ◌∙◌, subst, ⊎_elim, eqb→eq, T_not}
+use Rattle.std.proofs.Common.{◌≡◌, ℕ, suc, Bool, true, false, cond, not, ◌||◌, T, eqb, List, sym, refl, ap, ◌∙◌, subst, ⊎_elim, eqb→eq, T_not}
 use Rattle.ledger.specs.declared.Loan as loans
 use Rattle.ledger.specs.declared.Loan.TheVariants as loan
+use Rattle.ledger.specs.declared.mapping.Mapping.{Mapping}
 use Rattle.ledger.specs.declared.Use as uses
 use Rattle.ledger.specs.declared.Use.TheVariants as used
 use Rattle.ledger.specs.View as ledger
@@ -16,6 +17,7 @@ use Rattle.house.proofs.Shelf.{either}
 use Rattle.house.proofs.Uses.{pageless, lent}
 use Rattle.house.proofs.Tables.{unlink}
 use Rattle.house.proofs.PageWords.{words_put}
+use Rattle.house.proofs.Mappings.{mapping}
 
 -- d's upper table is out of frame 0 already
 abbrev pub cutting : ℕ → Progress → Progress
@@ -23,16 +25,19 @@ cutting d p = record { cut = λ e. eqb e d || p.cut e; hidden = p.hidden; yeses 
 
 -- nothing is lent to d
 abbrev pub Unlent : ledger.View → ℕ → Type 0
-Unlent v d = (f c u q : ℕ) (w : Bool) → v.used f ≡ used.PageOf c u (loan.Lent d q w) → ⊥
+Unlent v d = (f c u q : ℕ) (w : Bool) → v.used f ≡ used.PageOf c u (loan.Lent (mapping d q w)) → ⊥
 
-lent_loan : (l : loans.Loan) (d q : ℕ) (w : Bool) → loan_meant l ≡ Lent d q w → l ≡ loan.Lent d q w
+same_mapping : (m : Mapping) (d p : ℕ) (w : Bool) → m.device ≡ d → m.page ≡ p → m.writes ≡ w → m ≡ mapping d p w
+same_mapping m d p w a b e = rw (sym a, sym b, sym e) refl
+
+lent_loan : (l : loans.Loan) (d q : ℕ) (w : Bool) → loan_meant l ≡ Lent d q w → l ≡ loan.Lent (mapping d q w)
 unfolding loan_meant
 lent_loan loan.Home d q w e = absurd (subst lent (sym e) tt)
-lent_loan (loan.Lent a b x) d q w e = cc
-lent_loan (loan.Leaving a b x) d q w e = absurd (subst lent (sym e) tt)
+lent_loan (loan.Lent m) d q w e = ap loan.Lent (same_mapping m d q w (cc) (cc) (cc))
+lent_loan (loan.Leaving m) d q w e = absurd (subst lent (sym e) tt)
 
 -- a page that the meaning has lent
-pub lent_meant : (x : uses.Use) (c u d q : ℕ) (w : Bool) → use_meant x ≡ Of c u (Lent d q w) → x ≡ used.PageOf c u (loan.Lent d q w)
+pub lent_meant : (x : uses.Use) (c u d q : ℕ) (w : Bool) → use_meant x ≡ Of c u (Lent d q w) → x ≡ used.PageOf c u (loan.Lent (mapping d q w))
 unfolding use_meant
 lent_meant used.House c u d q w e = absurd (subst pageless e tt)
 lent_meant (used.TableOf a b) c u d q w e = absurd (subst pageless e tt)

@@ -42,7 +42,7 @@ use Rattle.house.proofs.Closed.{owner_meant}
 use Rattle.house.proofs.ClosedViews.{unshown_all}
 use Rattle.house.proofs.ClosedTurns.{cut_so_far, closes_hold, all_asked}
 use Rattle.house.proofs.Settled.{Settled, closed_to, settle_all}
-use Rattle.house.proofs.Built.{end_built}
+use Rattle.house.proofs.Built.{all_built}
 use Rattle.house.proofs.LettingGo.{in_all, bared_is, below_all, drained_all, end_allowed, every_from, known_device, let_go_closed, let_go_unlent, let_go_all, loosen_end, not_all_in}
 use Rattle.house.proofs.EndedPlaces.{hid_first, hid_then, meant_not_of, registers_bared, shown_bared, shown_ended}
 
@@ -118,7 +118,7 @@ module _ {v : ledger.View} (co : Coherent v) (owns : ℕ → Bool) (w : ℕ) (ow
           fits = a.fits;
           state = x;
           run = subst (λ (z : Bool). Meaning.Run can (start_of h) es (cond z (out Done (set_use (λ g. not_of w (x.what g)) x)) (out Later x)).state (Over c (End w) (cond z (out Done (set_use (λ g. not_of w (x.what g)) x)) (out Later x)).answer)) (all_drained_is ∙ no_yet)
-              (Meaning.acted 0 a.run (end_built w) (end_allowed a.state c w lt zero_asks) tt excused_there);
+              (Meaning.acted 0 a.run (all_built _) (end_allowed a.state c w lt zero_asks) tt excused_there);
           shape = shape_there;
           drained_are = drained_there;
           undrained_are = undrained_there;
@@ -146,8 +146,8 @@ module _ {v : ledger.View} (co : Coherent v) (owns : ℕ → Bool) (w : ℕ) (ow
 
           loan_home : (b : ℕ) (x : loans.Loan) → b ≡ w → LoanOk v.device v.low b x → loan_meant (closed_loan owns (λ d. is_in d ys) x) ≡ Home
           loan_home b loan.Home q ok = refl
-          loan_home b (loan.Lent d p r) q ok = let o = mine d b q (ap (tests.owner_is b) ok.0 ∙ eq-eqb b b refl) in rw (o, gone d o)
-          loan_home b (loan.Leaving d p r) q ok = let o = mine d b q ok.0 in rw (o, gone d o)
+          loan_home b (loan.Lent m) q ok = let o = mine m.device b q (ap (tests.owner_is b) ok.0 ∙ eq-eqb b b refl) in rw (o, gone m.device o)
+          loan_home b (loan.Leaving m) q ok = let o = mine m.device b q ok.0 in rw (o, gone m.device o)
 
           go : (x : uses.Use) → v.used g ≡ x → use_meant (closed_use owns (λ d. is_in d ys) x) ≡ Of w u l → l ≡ Home
           go used.House q z = absurd (subst pageless z tt)
@@ -167,7 +167,7 @@ module _ {v : ledger.View} (co : Coherent v) (owns : ℕ → Bool) (w : ℕ) (ow
             fits = a.fits;
             state = set_use (λ g. not_of w (x.what g)) x;
             run = subst (λ (z : Bool). Meaning.Run can (start_of h) es (cond z (out Done (set_use (λ g. not_of w (x.what g)) x)) (out Later x)).state (Over c (End w) (cond z (out Done (set_use (λ g. not_of w (x.what g)) x)) (out Later x)).answer)) (all_drained_is ∙ every_yes)
-                (Meaning.acted 0 a.run (end_built w) (end_allowed a.state c w lt zero_asks) tt excused_there);
+                (Meaning.acted 0 a.run (all_built _) (end_allowed a.state c w lt zero_asks) tt excused_there);
             shape = shape_there;
             drained_are = drained_there;
             undrained_are = undrained_there;
@@ -203,14 +203,14 @@ later_end v owns w {ys} c m a q no_yet =
 -- An end in whole: refused, or done, or to be done later.
 pub end_refused : {room : List ℕ} {who p : ℕ} {h : Hw} {es : List Event} (e : Refusal) → Begins room who (End p) h es → EndRefused who p e → Keeps room Quiet h (Told who (End p) (No (number_of e)) ∷ es)
 unfolding why
-end_refused {p = p} OutOfRange b x = keeps_why 1 (end_built p) b (rw (le-leb 32 p x)) (omega arith)
+end_refused {p = p} OutOfRange b x = keeps_why OutOfRange b (rw (le-leb 32 p x))
 end_refused NoPage b x = absurd x
 end_refused Occupied b x = absurd x
 end_refused WrongLoan b x = absurd x
 end_refused NotYours b x = absurd x
 end_refused Held b x = absurd x
 end_refused NoFrame b x = absurd x
-end_refused {who = who} {p = p} NotPermitted b x = keeps_why 8 (end_built p) b (rw (lt-leb 32 p x.0, ne_eqb who 0 x.1)) (omega arith)
+end_refused {who = who} {p = p} NotPermitted b x = keeps_why NotPermitted b (rw (lt-leb 32 p x.0, ne_eqb who 0 x.1))
 end_refused NotBuilt b x = absurd x
 
 -- what it takes to close the devices

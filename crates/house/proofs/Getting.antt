@@ -1,5 +1,5 @@
 -- get and free: when each is refused, and what it makes of the room and the machine.
-use Rattle.std.proofs.Common.{◌≡◌, ℕ, ◌<◌, ◌&&◌, eqb, List, [], ◌∷◌, sym, refl, ap, ◌∙◌, subst, arith}
+use Rattle.std.proofs.Common.{◌≡◌, ℕ, ◌<◌, ◌&&◌, eqb, List, [], ◌∷◌, sym, refl, ap, ◌∙◌, subst}
 use Rattle.std.proofs.lemmas.Bool.{lt-leb, le-leb, lt-ltb}
 use Rattle.ledger.specs.declared.Loan.TheVariants as loan
 use Rattle.ledger.specs.declared.Use.TheVariants as used
@@ -30,7 +30,7 @@ use Rattle.house.proofs.PageWords.{words_get, words_none}
 use Rattle.house.proofs.Steps.{steps_same}
 use Rattle.house.proofs.Between.{holds_steps, keeps_done, keeps_why}
 use Rattle.house.proofs.Idle.{idle_meant, clears_idle}
-use Rattle.house.proofs.Built.{get_built, free_built}
+use Rattle.house.proofs.Built.{all_built}
 
 -- nothing speaks against a get
 pub get_allowed : {v : ledger.View} (s : State) → Coherent v → Kept v s → Inside s.frames v → (c u f : ℕ) → u < 1024 → v.place c u ≡ place.Nothing → f < s.frames → v.used f ≡ used.Idle → why s c (Get u) ≡ 0
@@ -52,7 +52,7 @@ get_done {v} {c} {u} {f} {h} co i lt e b x z a =
     record {
       fits = a.fits;
       state = gets c u f s;
-      run = Meaning.acted f a.run (get_built u) w (idle_frame s co a.kept i2 f b2 x).0 tt;
+      run = Meaning.acted f a.run (all_built _) w (idle_frame s co a.kept i2 f b2 x).0 tt;
       shape = a.shape;
       drained_are = a.drained_are;
       undrained_are = a.undrained_are;
@@ -88,7 +88,7 @@ free_done {v} {c} {u} {f} {h} {es} {xs} {ys} co i lt e x a =
     record {
       fits = a.fits;
       state = set_use (use_at f Idle s.what) s;
-      run = subst (λ (g : ℕ). Meaning.Run can (start_of h) es (set_use (use_at g Idle s.what) s) (Over c (Free u) Done)) q.1 (Meaning.acted 0 a.run (free_built u) w tt tt);
+      run = subst (λ (g : ℕ). Meaning.Run can (start_of h) es (set_use (use_at g Idle s.what) s) (Over c (Free u) Done)) q.1 (Meaning.acted 0 a.run (all_built _) w tt tt);
       shape = a.shape;
       drained_are = a.drained_are;
       undrained_are = a.undrained_are;
@@ -117,19 +117,19 @@ get_refused {room} {who} {u} {n} {h} {es} e q b r = go e (subst (λ (z : ℕ). G
     i = subst (λ (z : ℕ). Inside z v) (sym b.holds.shape.frames_are) (inside_room h.frames room)
 
     go : (e : Refusal) → GetRefused v h.frames who u e → Keeps room Quiet h (Told who (Get u) (No (number_of e)) ∷ es)
-    go OutOfRange x = keeps_why 1 (get_built u) b (rw (le-leb 1024 u x)) (omega arith)
+    go OutOfRange x = keeps_why OutOfRange b (rw (le-leb 1024 u x))
     go NoPage x = absurd x
-    go Occupied x = keeps_why 3 (get_built u) b (rw (lt-leb 1024 u x.0, is_true (taken s who u) (occupied s b.tidy.coherent b.holds.kept i who u x.1))) (omega arith)
+    go Occupied x = keeps_why Occupied b (rw (lt-leb 1024 u x.0, is_true (taken s who u) (occupied s b.tidy.coherent b.holds.kept i who u x.1)))
     go WrongLoan x = absurd x
     go NotYours x = absurd x
     go Held x = absurd x
     go NoFrame x =
-        keeps_why 7 (get_built u) b
+        keeps_why NoFrame b
         (rw (
           lt-leb 1024 u x.0,
           is_false (taken s who u) (vacant s b.tidy.coherent b.holds.kept i who u x.1),
           is_true (full s) (no_idle s b.tidy.coherent b.holds.kept i (λ f lt. x.2 f (subst (λ (z : ℕ). f < z) b.holds.shape.frames_are lt))),
-        )) (omega arith)
+        ))
     go NotPermitted x = absurd x
     go NotBuilt x = absurd x
 
@@ -165,13 +165,13 @@ free_refused {room} {who} {u} {n} {h} {es} e q b r = go e (subst (λ (z : ℕ). 
     i = subst (λ (z : ℕ). Inside z v) (sym b.holds.shape.frames_are) (inside_room h.frames room)
 
     go : (e : Refusal) → FreeRefused v who u e → Keeps room Quiet h (Told who (Free u) (No (number_of e)) ∷ es)
-    go OutOfRange x = keeps_why 1 (free_built u) b (rw (le-leb 1024 u x)) (omega arith)
-    go NoPage x = keeps_why 2 (free_built u) b (rw (lt-leb 1024 u x.0, is_false (has s who u) (table_at_no_page s b.tidy.coherent b.holds.kept i who u x.1))) (omega arith)
+    go OutOfRange x = keeps_why OutOfRange b (rw (le-leb 1024 u x))
+    go NoPage x = keeps_why NoPage b (rw (lt-leb 1024 u x.0, is_false (has s who u) (table_at_no_page s b.tidy.coherent b.holds.kept i who u x.1)))
     go Occupied x = absurd x
     go WrongLoan x =
         let p = page_has s b.tidy.coherent b.holds.kept i who u x.1.0 x.1.1 in
         let w = loan_away s b.tidy.coherent b.holds.kept i who u x.1.0 x.1.1 x.1.2 in
-        keeps_why 4 (free_built u) b (rw (lt-leb 1024 u x.0, is_true (has s who u) p.0, is_false (is_home (loan s who u)) w)) (omega arith)
+        keeps_why WrongLoan b (rw (lt-leb 1024 u x.0, is_true (has s who u) p.0, is_false (is_home (loan s who u)) w))
     go NotYours x = absurd x
     go Held x = absurd x
     go NoFrame x = absurd x

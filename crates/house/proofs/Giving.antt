@@ -1,5 +1,5 @@
 -- give: when it is refused, and what it makes of the room and the machine.
-use Rattle.std.proofs.Common.{◌≡◌, ℕ, ◌<◌, ◌≤◌, Bool, true, false, cond, ◌&&◌, ◌||◌, T, eqb, leb, ◌⊎◌, List, [], ◌∷◌, sym, refl, ap, ◌∙◌, subst, inl, inr, arith}
+use Rattle.std.proofs.Common.{◌≡◌, ℕ, ◌<◌, ◌≤◌, Bool, true, false, cond, ◌&&◌, ◌||◌, T, eqb, leb, ◌⊎◌, List, [], ◌∷◌, sym, refl, ap, ◌∙◌, subst, inl, inr}
 use Rattle.std.proofs.lemmas.Bool.{lt-leb, le-leb}
 use Rattle.ledger.specs.declared.Loan.TheVariants as loan
 use Rattle.ledger.specs.declared.Use.TheVariants as used
@@ -30,7 +30,7 @@ use Rattle.house.proofs.PageWords.{words_page}
 use Rattle.house.proofs.Steps.{steps_same}
 use Rattle.house.proofs.Between.{holds_steps, keeps_done, keeps_why}
 use Rattle.house.proofs.Hiding.{hiding, hide_place}
-use Rattle.house.proofs.Built.{give_built}
+use Rattle.house.proofs.Built.{all_built}
 
 -- two places and a program that are there
 in_range : (u a b : ℕ) → u < 1024 → a < 32 → b < 1024 → (leb 1024 u || leb 32 a || leb 1024 b) ≡ false
@@ -74,7 +74,7 @@ give_done {v} {c} {u} {a} {b} {f} {h} {es} co i x y z e n m o =
     record {
       fits = o.fits;
       state = given;
-      run = subst (λ (g : ℕ). Meaning.Run can (start_of h) es (set_use (use_at g (Of a b Home) s.what) s) (Over c (Give u a b) Done)) q.1 (Meaning.acted 0 o.run (give_built u a b) w tt tt);
+      run = subst (λ (g : ℕ). Meaning.Run can (start_of h) es (set_use (use_at g (Of a b Home) s.what) s) (Over c (Give u a b) Done)) q.1 (Meaning.acted 0 o.run (all_built _) w tt tt);
       shape = o.shape;
       drained_are = o.drained_are;
       undrained_are = o.undrained_are;
@@ -112,16 +112,16 @@ give_refused {room} {who} {u} {a} {b} {n} {h} {es} e q g r = go e (subst (λ (z 
     k = g.holds.kept
 
     go : (e : Refusal) → GiveRefused v who u a b e → Keeps room Quiet h (Told who (Give u a b) (No (number_of e)) ∷ es)
-    go OutOfRange x = keeps_why 1 (give_built u a b) g (rw (out_of_range u a b x)) (omega arith)
-    go NoPage x = keeps_why 2 (give_built u a b) g (rw (in_range u a b x.0 x.1 x.2, is_false (has s who u) (table_at_no_page s co k i who u x.3))) (omega arith)
+    go OutOfRange x = keeps_why OutOfRange g (rw (out_of_range u a b x))
+    go NoPage x = keeps_why NoPage g (rw (in_range u a b x.0 x.1 x.2, is_false (has s who u) (table_at_no_page s co k i who u x.3)))
     go Occupied x =
-        keeps_why 3 (give_built u a b) g
-        (rw (in_range u a b x.0 x.1 x.2, is_true (has s who u) (page_has s co k i who u x.3.0 x.3.1).0, is_true (taken s a b) (occupied s co k i a b x.4))) (omega arith)
+        keeps_why Occupied g
+        (rw (in_range u a b x.0 x.1 x.2, is_true (has s who u) (page_has s co k i who u x.3.0 x.3.1).0, is_true (taken s a b) (occupied s co k i a b x.4)))
     go WrongLoan x =
         let p = page_has s co k i who u x.4.0 x.4.1 in
         let w = loan_away s co k i who u x.4.0 x.4.1 x.4.2 in
-        keeps_why 4 (give_built u a b) g
-        (rw (in_range u a b x.0 x.1 x.2, is_true (has s who u) p.0, is_false (taken s a b) (vacant s co k i a b x.3), is_false (is_home (loan s who u)) w)) (omega arith)
+        keeps_why WrongLoan g
+        (rw (in_range u a b x.0 x.1 x.2, is_true (has s who u) p.0, is_false (taken s a b) (vacant s co k i a b x.3), is_false (is_home (loan s who u)) w))
     go NotYours x = absurd x
     go Held x = absurd x
     go NoFrame x = absurd x

@@ -1,9 +1,10 @@
 -- lend: when it is refused, and what it makes of the room and the machine, with a lower table that is there or with a new one.
 use Rattle.std.proofs.Common.{◌≡◌, ℕ, suc, ◌+◌, ◌-◌, ◌/◌, ◌%◌, ◌<◌, ◌≤◌, Bool, true, false, cond, not, ◌&&◌, ◌||◌, T, eqb, leb, List, ◌∷◌, sym, refl, ap, ◌∙◌, subst, ⊎_elim, arith, eqb→eq}
 use mathlib.Core.Path.{fun_ext}
-use Rattle.std.proofs.lemmas.Bool.{lt-leb, le-leb, lt-ltb, cases_lt, cases_eq, eq-eqb, ne_eqb, eqb-true, and_parts, false≢true}
-use Rattle.ledger.specs.declared.Loan as loans
+use Rattle.std.proofs.lemmas.Bool.{lt-leb, le-leb, lt-ltb, cases_lt, cases_eq, eq-eqb, ne_eqb, false≢true}
 use Rattle.ledger.specs.declared.Loan.TheVariants as loan
+use Rattle.ledger.specs.declared.mapping.Mapping.{Mapping}
+use Rattle.ledger.specs.declared.room.Room.{Room}
 use Rattle.ledger.specs.declared.Which.TheVariants as which
 use Rattle.ledger.specs.declared.Use as uses
 use Rattle.ledger.specs.declared.Use.TheVariants as used
@@ -15,6 +16,8 @@ use Rattle.ledger.specs.Uses as tests
 use Rattle.ledger.specs.Room.{use_of, place_of, device_of, low_of, top_of}
 use Rattle.ledger.specs.Words.{LoanFits}
 use Rattle.ledger.specs.Changes.{with_loan, lower_at}
+use Rattle.ledger.specs.Rooms.{says, Becomes}
+use Rattle.ledger.proofs.Loaned.{lent_alone}
 use Rattle.ledger.specs.Consistent.{Coherent, Consistent, LoanOk}
 use Rattle.house.specs.declared.Call.TheVariants.{Lend}
 use Rattle.house.specs.declared.Answer.TheVariants.{Done, No}
@@ -42,8 +45,9 @@ use Rattle.house.proofs.Lending.{lend_entry, lend_linked}
 use Rattle.house.proofs.Steps.{steps_same}
 use Rattle.house.proofs.Between.{holds_steps, keeps_done, keeps_why}
 use Rattle.house.proofs.Idle.{idle_meant, steps_quiet, put_idle, clears_idle}
-use Rattle.house.proofs.Built.{lend_built}
+use Rattle.house.proofs.Built.{all_built}
 use Rattle.house.proofs.Getting.{idle_seen}
+use Rattle.house.proofs.Mappings.{mapping}
 
 -- tests
 twice : (b : Bool) → T b → T (not (not b))
@@ -74,8 +78,8 @@ at_meant d p used.House = refl
 at_meant d p (used.TableOf e t) = refl
 at_meant d p used.Idle = refl
 at_meant d p (used.PageOf c u loan.Home) = refl
-at_meant d p (used.PageOf c u (loan.Lent e q w)) = refl
-at_meant d p (used.PageOf c u (loan.Leaving e q w)) = refl
+at_meant d p (used.PageOf c u (loan.Lent m)) = refl
+at_meant d p (used.PageOf c u (loan.Leaving m)) = refl
 
 open_meant : (c : ℕ) (x : Device) → T (open_by c (dev_meant x)) → x ≡ device.Opened c
 unfolding open_by dev_meant
@@ -140,7 +144,7 @@ table_no_page d x e = subst (λ (y : Use). T (not (is_page y))) (sym e) tt
 
 -- A page at home whose lower table is there is lent by its entry.
 pub lend_entered : {v : ledger.View} {c u f d p t : ℕ} {w : Bool} {h : Hw} {es : List Event} {xs ys : List ℕ} → Coherent v → Inside h.frames v → Lendable v h.devices c u f d p → v.low d (p / 512) ≡ suc t →
-    Holds v (nothing_cut xs ys) (Under c (Lend u d p w)) h es → Holds (with_loan c u f (loan.Lent d p w) v) (nothing_cut xs ys) (Over c (Lend u d p w) Done) (counted (with_mem (put t (p % 512) (entry_of f w) h.mem) h)) es
+    Holds v (nothing_cut xs ys) (Under c (Lend u d p w)) h es → Holds (with_loan c u f (loan.Lent (mapping d p w)) v) (nothing_cut xs ys) (Over c (Lend u d p w) Done) (counted (with_mem (put t (p % 512) (entry_of f w) h.mem) h)) es
 unfolding acts takes_frame excused use_meant loan_meant
 lend_entered {v} {c} {u} {f} {d} {p} {t} {w} {h} {es} {xs} {ys} co inside lendable low a =
     let s = a.state in
@@ -161,11 +165,11 @@ lend_entered {v} {c} {u} {f} {d} {p} {t} {w} {h} {es} {xs} {ys} co inside lendab
     record {
       fits = a.fits;
       state = set_use (use_at f (Of c u (Lent d p w)) s.what) s;
-      run = subst (λ (o : Out). Meaning.Run can (start_of h) es o.state (Over c (Lend u d p w) o.answer)) acted (Meaning.acted 0 a.run (lend_built u d p w) ok (left (not (not (s.slots d (p / 512)))) (idle s 0) (twice (s.slots d (p / 512)) there)) tt);
+      run = subst (λ (o : Out). Meaning.Run can (start_of h) es o.state (Over c (Lend u d p w) o.answer)) acted (Meaning.acted 0 a.run (all_built _) ok (left (not (not (s.slots d (p / 512)))) (idle s 0) (twice (s.slots d (p / 512)) there)) tt);
       shape = a.shape;
       drained_are = a.drained_are;
       undrained_are = a.undrained_are;
-      kept = kept_use s a.kept f (used.PageOf c u (loan.Lent d p w));
+      kept = kept_use s a.kept f (used.PageOf c u (loan.Lent (mapping d p w)));
       sound = subst (λ (x : ℕ). Sound (tables_in v) (with_uses (use_at f (Of c u (Lent d p w)) s.what) (view_of s)) (put x (p % 512) (entry_of f w) h.mem) h.live h.ups h.mids h.leaves h.flying) table after;
       words = subst (λ (x : ℕ). sound.Words (with_uses (use_at f (Of c u (Lent d p w)) s.what) (view_of s)) s.word (put x (p % 512) (entry_of f w) h.mem)) table entered;
       live = a.live;
@@ -196,7 +200,7 @@ apart_uses f g x y z j n =
 -- A page at home is lent by the link of a new lower table that has its entry alone.
 pub lend_linked_done : {v : ledger.View} {c u g d p f : ℕ} {w : Bool} {h : Hw} {es : List Event} {xs ys : List ℕ} → Coherent v → Inside h.frames v → Lendable v h.devices c u g d p → v.low d (p / 512) ≡ 0 → f < h.frames → v.used f ≡ used.Idle →
     h.mem f (p % 512) ≡ entry_of g w → ((k : ℕ) → k < 512 → (k ≡ p % 512 → ⊥) → h.mem f k ≡ 0) → Holds v (nothing_cut xs ys) (Under c (Lend u d p w)) h es →
-    Holds (with_loan c u g (loan.Lent d p w) (lower_at d (p / 512) f v)) (nothing_cut xs ys) (Over c (Lend u d p w) Done) (counted (with_mem (put (v.top d) (p / 512) (suc f) h.mem) h)) es
+    Holds (with_loan c u g (loan.Lent (mapping d p w)) (lower_at d (p / 512) f v)) (nothing_cut xs ys) (Over c (Lend u d p w) Done) (counted (with_mem (put (v.top d) (p / 512) (suc f) h.mem) h)) es
 unfolding acts takes_frame excused use_meant loan_meant is_page
 lend_linked_done {v} {c} {u} {g} {d} {p} {f} {w} {h} {es} {xs} {ys} co inside lendable low small x entry zeros a =
     let s = a.state in
@@ -209,7 +213,7 @@ lend_linked_done {v} {c} {u} {g} {d} {p} {f} {w} {h} {es} {xs} {ys} co inside le
     let z = idle_meant a f x in
     let idle_there = idle_frame s co a.kept i f b x in
     let ok = lend_allowed s co a.kept i c d p u g w l (rw (slot, is_false (full s) idle_there.1) refl) in
-    let lent : uses.Use = used.PageOf c u (loan.Lent d p w) in
+    let lent : uses.Use = used.PageOf c u (loan.Lent (mapping d p w)) in
     let table : uses.Use = used.TableOf d (which.Lower (p / 512)) in
     let first = set_use (use_at g (Of c u (Lent d p w)) s.what) s in
     let both = set_use (use_at f (TableOf d) first.what) s in
@@ -221,7 +225,7 @@ lend_linked_done {v} {c} {u} {g} {d} {p} {f} {w} {h} {es} {xs} {ys} co inside le
     record {
       fits = a.fits;
       state = set_slots (λ e j. s.slots e j || (eqb e d && eqb j (p / 512))) both;
-      run = subst (λ (o : Out). Meaning.Run can (start_of h) es o.state (Over c (Lend u d p w) o.answer)) acted (Meaning.acted f a.run (lend_built u d p w) ok (right (not (not (s.slots d (p / 512)))) (idle s f) idle_there.0) tt);
+      run = subst (λ (o : Out). Meaning.Run can (start_of h) es o.state (Over c (Lend u d p w) o.answer)) acted (Meaning.acted f a.run (all_built _) ok (right (not (not (s.slots d (p / 512)))) (idle s f) idle_there.0) tt);
       shape = a.shape;
       drained_are = a.drained_are;
       undrained_are = a.undrained_are;
@@ -289,51 +293,47 @@ lend_refused {room} {who} {u} {d} {p} {n} {m} {w} {h} {es} e q q2 b r =
         )
 
     go : (e : Refusal) → LendRefused v h.frames s.devices who u d p e → Keeps room Quiet h (Told who (Lend u d p w) (No (number_of e)) ∷ es)
-    go OutOfRange x = keeps_why 1 (lend_built u d p w) b (rw (out_of_range u s.devices d p x)) (omega arith)
-    go NoPage x = keeps_why 2 (lend_built u d p w) b (no_page_there (x.0, x.1, x.2) x.3) (omega arith)
-    go Occupied x = keeps_why 3 (lend_built u d p w) b (is_taken (x.0, x.1, x.2) x.3.0 x.3.1 x.4.0 x.4.1) (omega arith)
-    go WrongLoan x = keeps_why 4 (lend_built u d p w) b (is_away (x.0, x.1, x.2) x.3.0 x.3.1 x.3.2 x.4) (omega arith)
-    go NotYours x = keeps_why 5 (lend_built u d p w) b (not_yours (x.0, x.1, x.2) x.3.0 x.3.1 x.3.2 x.4 x.5) (omega arith)
+    go OutOfRange x = keeps_why OutOfRange b (rw (out_of_range u s.devices d p x))
+    go NoPage x = keeps_why NoPage b (no_page_there (x.0, x.1, x.2) x.3)
+    go Occupied x = keeps_why Occupied b (is_taken (x.0, x.1, x.2) x.3.0 x.3.1 x.4.0 x.4.1)
+    go WrongLoan x = keeps_why WrongLoan b (is_away (x.0, x.1, x.2) x.3.0 x.3.1 x.3.2 x.4)
+    go NotYours x = keeps_why NotYours b (not_yours (x.0, x.1, x.2) x.3.0 x.3.1 x.3.2 x.4 x.5)
     go Held x = absurd x
-    go NoFrame x = keeps_why 7 (lend_built u d p w) b (is_full x.0.0 x.0.1 x.1 x.2) (omega arith)
+    go NoFrame x = keeps_why NoFrame b (is_full x.0.0 x.0.1 x.1 x.2)
     go NotPermitted x = absurd x
     go NotBuilt x = absurd x
-
-alone_there : (d p e q : ℕ) (w : Bool) (x : loans.Loan) → tests.is_at e q (loan.Lent d p w) ≡ true → tests.is_at e q x ≡ true → tests.is_at d p x ≡ true
-alone_there d p e q w x a b =
-    let r = and_parts (eqb e d) (eqb q p) a in
-    subst (λ (z : ℕ). tests.is_at d z x ≡ true) (eqb-true q p r.1) (subst (λ (z : ℕ). tests.is_at z q x ≡ true) (eqb-true e d r.0) b)
-
--- no other frame is where the page is to be lent
-lent_alone : (room : List ℕ) (n d p : ℕ) (w : Bool) → Untaken (ledger.view_of n room) d p → (f g e q : ℕ) → g < n → tests.is_at e q (loan.Lent d p w) ≡ true → tests.is_at e q (tests.loan_in (use_of room g)) ≡ true → g ≡ f
-lent_alone room n d p w free f g e q lt a b =
-    absurd (free g (rw (lt-ltb g n lt) (alone_there d p e q w (tests.loan_in (use_of room g)) a b)))
 
 untaken_lower : (v : ledger.View) (d p e j f : ℕ) → Untaken v d p → Untaken (lower_at e j f v) d p
 untaken_lower v d p e j f free g =
     at_one (λ (x : uses.Use). tests.is_at d p (tests.loan_in x) ≡ true → ⊥) g f (used.TableOf e (which.Lower j)) (v.used g) (λ _ z. false≢true z) (λ _ z. free g z)
 
 -- what `set_loan` asks, once the lower table is in the room
-pub lower_ready : (room room2 : List ℕ) (t : ℕ) {n k m who u f d p j : ℕ} {w : Bool} {x : loans.Loan} → n ≡ k → Lendable (ledger.view_of k room) m who u f d p → m ≤ 32 → j ≡ p / 512 → ledger.view_of n room2 ≡ lower_at d j t (ledger.view_of n room) → x ≡ loan.Lent d p w →
-    (place_of room2 who u ≡ place.Page f) × (LoanFits x × LoanOk (device_of room2) (low_of room2) who x) × ((g e q : ℕ) → g < n → tests.is_at e q x ≡ true → tests.is_at e q (tests.loan_in (use_of room2 g)) ≡ true → g ≡ f)
-lower_ready room room2 t {n} {k} {m} {who} {u} {f} {d} {p} {j} {w} {x} q l few s y z =
+pub lower_ready : (room room2 : List ℕ) (t : ℕ) {n k m who u f : ℕ} (to : Mapping) → n ≡ k → Lendable (ledger.view_of k room) m who u f to.device to.page → m ≤ 32 → ledger.view_of n room2 ≡ lower_at to.device (to.page / 512) t (ledger.view_of n room) →
+    (place_of room2 who u ≡ place.Page f) × (LoanFits (loan.Lent to) × LoanOk (device_of room2) (low_of room2) who (loan.Lent to)) × ((g e q : ℕ) → g < n → tests.is_at e q (loan.Lent to) ≡ true → tests.is_at e q (tests.loan_in (use_of room2 g)) ≡ true → g ≡ f)
+lower_ready room room2 t {n} {k} {m} {who} {u} {f} to q l few y =
+    let d = to.device in
+    let p = to.page in
     let v = ledger.view_of n room in
     let opened : device_of room2 d ≡ device.Opened who = ap (λ (o : ledger.View). o.device d) y ∙ l.opened in
-    let low : low_of room2 d (p / 512) ≡ suc t = subst (λ (i : ℕ). low_of room2 d i ≡ suc t) s (ap (λ (o : ledger.View). o.low d j) y ∙ rw (eq-eqb d d refl, eq-eqb j j refl)) in
-    let free : Untaken v d p = subst (λ (i : ℕ). Untaken (ledger.view_of i room) d p) (sym q) l.untaken in (
+    let low : low_of room2 d (p / 512) ≡ suc t = ap (λ (o : ledger.View). o.low d (p / 512)) y ∙ rw (eq-eqb d d refl, eq-eqb (p / 512) (p / 512) refl) in
+    let free : Untaken v d p = subst (λ (i : ℕ). Untaken (ledger.view_of i room) d p) (sym q) l.untaken in
+    let alone : Untaken (ledger.view_of n room2) d p = subst (λ (o : ledger.View). Untaken o d p) (sym y) (untaken_lower v d p d (p / 512) t free) in (
       ap (λ (o : ledger.View). o.place who u) y ∙ l.shown,
-      (subst LoanFits (sym z) (omega (arith, l.device), l.page), subst (λ (o : loans.Loan). LoanOk (device_of room2) (low_of room2) who o) (sym z) (opened, l.page, λ e. omega (arith, e, low))),
-      subst (λ (o : loans.Loan). (g e q : ℕ) → g < n → tests.is_at e q o ≡ true → tests.is_at e q (tests.loan_in (use_of room2 g)) ≡ true → g ≡ f) (sym z)
-          (lent_alone room2 n d p w (subst (λ (o : ledger.View). Untaken o d p) (sym y) (untaken_lower v d p d j t free)) f),
+      ((omega (arith, l.device), l.page), (opened, l.page, λ e. omega (arith, e, low))),
+      lent_alone n room2 f to (λ g lt k. alone g (rw (lt-ltb g n lt) k)),
     )
 
+-- the slot of a mapping is that of its device and page
+pub lower_made : (r q : Room) (to : Mapping) (t : ℕ) {d i : ℕ} → d ≡ to.device → i ≡ to.page / 512 → Becomes r (lower_at d i t (says r)) q → Becomes r (lower_at to.device (to.page / 512) t (says r)) q
+lower_made r q to t {d} {i} x y o = subst (λ (e : ℕ). Becomes r (lower_at e (to.page / 512) t (says r)) q) x (subst (λ (j : ℕ). Becomes r (lower_at d j t (says r)) q) y o)
+
 -- The entry was written in the lower table that is there.
-pub enter_told : {room room2 : List ℕ} {who u n f d p t k e : ℕ} {w : Bool} {x : loans.Loan} {h j : Hw} {es gs : List Event} → n ≡ h.frames → Begins room who (Lend u d p w) h es → Lendable (ledger.view_of h.frames room) h.devices who u f d p → low_of room d (p / 512) ≡ suc t →
-    k ≡ p % 512 → e ≡ entry_of f w → Steps (counted (with_mem (put t k e h.mem) h)) es j gs → x ≡ loan.Lent d p w → Consistent n room2 → ledger.view_of n room2 ≡ with_loan who u f x (ledger.view_of n room) → Keeps room2 Quiet j (Told who (Lend u d p w) Done ∷ gs)
-enter_told {room} {room2} {who} {u} {n} {f} {d} {p} {t} {k} {e} {w} {x} {h} {j} {es} {gs} q b l low ek ee m ex c y =
+pub enter_told : {room room2 : List ℕ} {who u n f d p t k e : ℕ} {w : Bool} {h j : Hw} {es gs : List Event} → n ≡ h.frames → Begins room who (Lend u d p w) h es → Lendable (ledger.view_of h.frames room) h.devices who u f d p → low_of room d (p / 512) ≡ suc t →
+    k ≡ p % 512 → e ≡ entry_of f w → Steps (counted (with_mem (put t k e h.mem) h)) es j gs → Consistent n room2 → ledger.view_of n room2 ≡ with_loan who u f (loan.Lent (mapping d p w)) (ledger.view_of n room) → Keeps room2 Quiet j (Told who (Lend u d p w) Done ∷ gs)
+enter_told {room} {room2} {who} {u} {n} {f} {d} {p} {t} {k} {e} {w} {h} {j} {es} {gs} q b l low ek ee m c y =
     let v = ledger.view_of h.frames room in
     let m2 = subst (λ (z : ℕ). Steps (counted (with_mem (put t (p % 512) z h.mem) h)) es j gs) ee (subst (λ (z : ℕ). Steps (counted (with_mem (put t z e h.mem) h)) es j gs) ek m) in
-    let y2 : ledger.view_of n room2 ≡ with_loan who u f (loan.Lent d p w) v = y ∙ (ap (λ (z : loans.Loan). with_loan who u f z (ledger.view_of n room)) ex ∙ ap (λ (z : ℕ). with_loan who u f (loan.Lent d p w) (ledger.view_of z room)) q) in
+    let y2 : ledger.view_of n room2 ≡ with_loan who u f (loan.Lent (mapping d p w)) v = y ∙ ap (λ (z : ℕ). with_loan who u f (loan.Lent (mapping d p w)) (ledger.view_of z room)) q in
     keeps_done ((steps_same m2).frames ∙ sym q) c y2 (holds_steps (lend_entered b.tidy.coherent (inside_room h.frames room) l low b.holds) m2)
 
 idle_home : (x : Use) → x ≡ Idle → T (is_home (loan_of x))
@@ -344,7 +344,7 @@ idle_home x e = subst (λ (y : Use). T (is_home (loan_of y))) (sym e) tt
 linked : {room room2 : List ℕ} {who u f d p t : ℕ} {w : Bool} {h i k j : Hw} {es fs ks gs : List Event} → Begins room who (Lend u d p w) h es → Lendable (ledger.view_of h.frames room) h.devices who u f d p →
     low_of room d (p / 512) ≡ 0 → t < h.frames → use_of room t ≡ used.Idle → Cleared t h es 512 i fs →
     Steps (counted (with_mem (put t (p % 512) (entry_of f w) i.mem) i)) fs k ks → Steps (counted (with_mem (put (top_of room d) (p / 512) (suc t) k.mem) k)) ks j gs →
-    Consistent h.frames room2 → ledger.view_of h.frames room2 ≡ with_loan who u f (loan.Lent d p w) (lower_at d (p / 512) t (ledger.view_of h.frames room)) → Keeps room2 Quiet j (Told who (Lend u d p w) Done ∷ gs)
+    Consistent h.frames room2 → ledger.view_of h.frames room2 ≡ with_loan who u f (loan.Lent (mapping d p w)) (lower_at d (p / 512) t (ledger.view_of h.frames room)) → Keeps room2 Quiet j (Told who (Lend u d p w) Done ∷ gs)
 linked {room} {room2} {who} {u} {f} {d} {p} {t} {w} {h} {i} {k} {j} b l low lt x c m1 m2 y2 y =
     let v = ledger.view_of h.frames room in
     let idle : v.used t ≡ used.Idle = idle_seen room h.frames t lt x in
@@ -359,19 +359,19 @@ linked {room} {room2} {who} {u} {f} {d} {p} {t} {w} {h} {i} {k} {j} b l low lt x
     keeps_done ((steps_same m2).frames ∙ frames) y2 y (holds_steps done m2)
 
 -- the same in the words of the code
-pub link_told : {room : List ℕ} (room2 : List ℕ) {room3 : List ℕ} {who u n f d p t r top s1 s2 a e : ℕ} {w : Bool} {x : loans.Loan} {h i k j : Hw} {es fs ks gs : List Event} → n ≡ h.frames → Begins room who (Lend u d p w) h es → Lendable (ledger.view_of h.frames room) h.devices who u f d p →
-    low_of room d (p / 512) ≡ 0 → t < h.frames → use_of room t ≡ used.Idle → top ≡ top_of room d → Cleared t h es 512 i fs → s1 ≡ p / 512 → r ≡ t → ledger.view_of n room2 ≡ lower_at d s1 t (ledger.view_of n room) →
-    a ≡ p % 512 → e ≡ entry_of f w → Steps (counted (with_mem (put r a e i.mem) i)) fs k ks → s2 ≡ p / 512 → Steps (counted (with_mem (put top s2 (r + 1) k.mem) k)) ks j gs →
-    x ≡ loan.Lent d p w → Consistent n room3 → ledger.view_of n room3 ≡ with_loan who u f x (ledger.view_of n room2) → Keeps room3 Quiet j (Told who (Lend u d p w) Done ∷ gs)
-link_told {room} room2 {room3} {who} {u} {n} {f} {d} {p} {t} {r} {top} {s1} {s2} {a} {e} {w} {x} {h} {i} {k} {j} {es} {fs} {ks} {gs} q b l low lt unused qtop c q1 qr y1 qa qe m1 q2 m2 qx c3 y3 =
+pub link_told : {room : List ℕ} (room2 : List ℕ) {room3 : List ℕ} {who u n f d p t r top s a e : ℕ} {w : Bool} {h i k j : Hw} {es fs ks gs : List Event} → n ≡ h.frames → Begins room who (Lend u d p w) h es → Lendable (ledger.view_of h.frames room) h.devices who u f d p →
+    low_of room d (p / 512) ≡ 0 → t < h.frames → use_of room t ≡ used.Idle → top ≡ top_of room d → Cleared t h es 512 i fs → r ≡ t → ledger.view_of n room2 ≡ lower_at d (p / 512) t (ledger.view_of n room) →
+    a ≡ p % 512 → e ≡ entry_of f w → Steps (counted (with_mem (put r a e i.mem) i)) fs k ks → s ≡ p / 512 → Steps (counted (with_mem (put top s (r + 1) k.mem) k)) ks j gs →
+    Consistent n room3 → ledger.view_of n room3 ≡ with_loan who u f (loan.Lent (mapping d p w)) (ledger.view_of n room2) → Keeps room3 Quiet j (Told who (Lend u d p w) Done ∷ gs)
+link_told {room} room2 {room3} {who} {u} {n} {f} {d} {p} {t} {r} {top} {s} {a} {e} {w} {h} {i} {k} {j} {es} {fs} {ks} {gs} q b l low lt unused qtop c qr y1 qa qe m1 qs m2 c3 y3 =
     linked b l low lt unused c
     (subst (λ (z : ℕ). Steps (counted (with_mem (put z (p % 512) (entry_of f w) i.mem) i)) fs k ks) qr (subst (λ (z : ℕ). Steps (counted (with_mem (put r z (entry_of f w) i.mem) i)) fs k ks) qa (subst (λ (z : ℕ). Steps (counted (with_mem (put r a z i.mem) i)) fs k ks) qe m1)))
-    (subst (λ (z : ℕ). Steps (counted (with_mem (put z (p / 512) (suc t) k.mem) k)) ks j gs) qtop (subst (λ (z : ℕ). Steps (counted (with_mem (put top z (suc t) k.mem) k)) ks j gs) q2 (subst (λ (z : ℕ). Steps (counted (with_mem (put top s2 z k.mem) k)) ks j gs) next m2)))
+    (subst (λ (z : ℕ). Steps (counted (with_mem (put z (p / 512) (suc t) k.mem) k)) ks j gs) qtop (subst (λ (z : ℕ). Steps (counted (with_mem (put top z (suc t) k.mem) k)) ks j gs) qs (subst (λ (z : ℕ). Steps (counted (with_mem (put top s z k.mem) k)) ks j gs) next m2)))
     (subst (λ (z : ℕ). Consistent z room3) q c3)
-    (subst (λ (z : ℕ). ledger.view_of z room3 ≡ with_loan who u f (loan.Lent d p w) (lower_at d (p / 512) t (ledger.view_of z room))) q seen)
+    (subst (λ (z : ℕ). ledger.view_of z room3 ≡ with_loan who u f (loan.Lent (mapping d p w)) (lower_at d (p / 512) t (ledger.view_of z room))) q seen)
   where
     next : r + 1 ≡ suc t
     next = omega (arith, qr)
 
-    seen : ledger.view_of n room3 ≡ with_loan who u f (loan.Lent d p w) (lower_at d (p / 512) t (ledger.view_of n room))
-    seen = y3 ∙ (ap (λ (z : loans.Loan). with_loan who u f z (ledger.view_of n room2)) qx ∙ (ap (λ (z : ledger.View). with_loan who u f (loan.Lent d p w) z) y1 ∙ ap (λ (z : ℕ). with_loan who u f (loan.Lent d p w) (lower_at d z t (ledger.view_of n room))) q1))
+    seen : ledger.view_of n room3 ≡ with_loan who u f (loan.Lent (mapping d p w)) (lower_at d (p / 512) t (ledger.view_of n room))
+    seen = y3 ∙ ap (λ (z : ledger.View). with_loan who u f (loan.Lent (mapping d p w)) z) y1

@@ -4,6 +4,7 @@ use mathlib.Core.Path.{fun_ext}
 use Rattle.std.proofs.lemmas.Bool.{cases_eq, cases_lt, eq-eqb, ne_eqb, lt-ltb, lt-leb, ltb-true, cond_both, false≢true}
 use Rattle.ledger.specs.declared.Loan as loans
 use Rattle.ledger.specs.declared.Loan.TheVariants as loan
+use Rattle.ledger.specs.declared.mapping.Mapping.{Mapping}
 use Rattle.ledger.specs.declared.Use as uses
 use Rattle.ledger.specs.declared.Use.TheVariants as used
 use Rattle.ledger.specs.declared.Place.{Place}
@@ -34,7 +35,8 @@ use Rattle.house.proofs.PageWords.{words_loans}
 use Rattle.house.proofs.Cutting.{Unlent}
 use Rattle.house.proofs.Closed.{same_choice, owner_meant}
 use Rattle.house.proofs.ClosedViews.{unshown, unshown_all}
-use Rattle.house.proofs.Built.{end_built}
+use Rattle.house.proofs.Built.{all_built}
+use Rattle.house.proofs.Mappings.{mapping}
 
 pub same_tests : (a b : Bool) → (T a → T b) → (T b → T a) → a ≡ b
 same_tests true true f g = refl
@@ -77,8 +79,8 @@ not_all_in (suc n) owns ys t =
 -- the loans to a program's devices that are let go
 abbrev pub let_go : (ℕ → Bool) → loans.Loan → loans.Loan
 let_go owns loan.Home = loan.Home
-let_go owns (loan.Lent d p w) = cond (owns d) (loan.Leaving d p w) (loan.Lent d p w)
-let_go owns (loan.Leaving d p w) = loan.Leaving d p w
+let_go owns (loan.Lent m) = cond (owns m.device) (loan.Leaving m) (loan.Lent m)
+let_go owns (loan.Leaving m) = loan.Leaving m
 
 abbrev pub let_go_all : (ℕ → Bool) → ledger.View → ledger.View
 let_go_all owns v = changes.with_uses (tests.map_loan (let_go owns)) v
@@ -86,16 +88,16 @@ let_go_all owns v = changes.with_uses (tests.map_loan (let_go owns)) v
 pub let_go_unlent : (owns : ℕ → Bool) (v : ledger.View) (d : ℕ) → owns d ≡ true → Unlent (let_go_all owns v) d
 let_go_unlent owns v d o f c u q w = go (v.used f)
   where
-    gone : (e p : ℕ) (x : Bool) → loan.Leaving e p x ≡ loan.Lent d q w → ⊥
-    gone e p x z = let y : ◌≡◌ {A = ℕ} 0 1 = cc in omega arith
+    gone : (m : Mapping) → loan.Leaving m ≡ loan.Lent (mapping d q w) → ⊥
+    gone m z = let y : ◌≡◌ {A = ℕ} 0 1 = cc in omega arith
 
-    loans_go : (l : loans.Loan) → let_go owns l ≡ loan.Lent d q w → ⊥
+    loans_go : (l : loans.Loan) → let_go owns l ≡ loan.Lent (mapping d q w) → ⊥
     loans_go loan.Home z = let y : ◌≡◌ {A = ℕ} 0 1 = cc in omega arith
-    loans_go (loan.Lent e p x) z =
-        cond_both (owns e) (loan.Leaving e p x) (loan.Lent e p x) (λ y. y ≡ loan.Lent d q w → ⊥) (λ _. gone e p x) (λ n y. let k : e ≡ d = cc in false≢true (sym n ∙ (ap owns k ∙ o))) z
-    loans_go (loan.Leaving e p x) z = gone e p x z
+    loans_go (loan.Lent m) z =
+        cond_both (owns m.device) (loan.Leaving m) (loan.Lent m) (λ y. y ≡ loan.Lent (mapping d q w) → ⊥) (λ _. gone m) (λ n y. let k : m.device ≡ d = cc in false≢true (sym n ∙ (ap owns k ∙ o))) z
+    loans_go (loan.Leaving m) z = gone m z
 
-    go : (x : uses.Use) → tests.map_loan (let_go owns) x ≡ used.PageOf c u (loan.Lent d q w) → ⊥
+    go : (x : uses.Use) → tests.map_loan (let_go owns) x ≡ used.PageOf c u (loan.Lent (mapping d q w)) → ⊥
     go used.House z = let y : ◌≡◌ {A = ℕ} 0 1 = cc in omega arith
     go (used.TableOf e x) z = let y : ◌≡◌ {A = ℕ} 0 1 = cc in omega arith
     go used.Idle z = let y : ◌≡◌ {A = ℕ} 0 1 = cc in omega arith
@@ -107,8 +109,8 @@ let_go_closed owns gone w v = same_view (closed_all owns gone w (bared w (let_go
   where
     loan_same : (l : loans.Loan) → closed_loan owns gone (let_go owns l) ≡ closed_loan owns gone l
     loan_same loan.Home = refl
-    loan_same (loan.Lent d p x) = cond_both (owns d) (loan.Leaving d p x) (loan.Lent d p x) (λ z. closed_loan owns gone z ≡ closed_loan owns gone (loan.Lent d p x)) (λ e. rw e) (λ e. refl)
-    loan_same (loan.Leaving d p x) = refl
+    loan_same (loan.Lent m) = cond_both (owns m.device) (loan.Leaving m) (loan.Lent m) (λ z. closed_loan owns gone z ≡ closed_loan owns gone (loan.Lent m)) (λ e. rw e) (λ e. refl)
+    loan_same (loan.Leaving m) = refl
 
     use_same : (x : uses.Use) → closed_use owns gone (tests.map_loan (let_go owns) x) ≡ closed_use owns gone x
     use_same used.House = refl
@@ -162,10 +164,10 @@ module _ {v : ledger.View} (owns : ℕ → Bool) (w : ℕ) (own : (e : ℕ) → 
       cond (any s.devices (λ (d : ℕ). owner_is w (s.dev d) && eqb d (device_of (loan_meant l)))) (leaving (loan_meant l)) (loan_meant l) ≡ loan_meant (let_go owns l)
   unfolding device_of loan_meant leaving
   meant_let_go s k known loan.Home = same_choice (any s.devices (λ (d : ℕ). owner_is w (s.dev d) && eqb d 0)) Home
-  meant_let_go s k known (loan.Leaving d p x) = same_choice (any s.devices (λ (e : ℕ). owner_is w (s.dev e) && eqb e d)) (Leaving d p x)
-  meant_let_go s k known (loan.Lent d p x) =
-      rw (any_at s.devices (λ (e : ℕ). owner_is w (s.dev e)) d, ap (owner_is w) (k.devs_are d) ∙ owner_meant w (v.device d) ∙ sym (own d), below_all owns s.devices known d)
-      (cond_both (owns d) (Leaving d p x) (Lent d p x) (λ z. z ≡ loan_meant (cond (owns d) (loan.Leaving d p x) (loan.Lent d p x))) (λ q. rw q) (λ q. rw q))
+  meant_let_go s k known (loan.Leaving m) = same_choice (any s.devices (λ (e : ℕ). owner_is w (s.dev e) && eqb e m.device)) (Leaving m.device m.page m.writes)
+  meant_let_go s k known (loan.Lent m) =
+      rw (any_at s.devices (λ (e : ℕ). owner_is w (s.dev e)) m.device, ap (owner_is w) (k.devs_are m.device) ∙ owner_meant w (v.device m.device) ∙ sym (own m.device), below_all owns s.devices known m.device)
+      (cond_both (owns m.device) (Leaving m.device m.page m.writes) (Lent m.device m.page m.writes) (λ z. z ≡ loan_meant (cond (owns m.device) (loan.Leaving m) (loan.Lent m))) (λ q. rw q) (λ q. rw q))
 
   -- what was lent to the devices is let go
   pub loosen_end : {p : Progress} {c : ℕ} {h : Hw} {es : List Event} → w < 32 → c ≡ 0 → Holds v p (Under c (End w)) h es → Holds (let_go_all owns v) p (Under c (End w)) h es
@@ -176,7 +178,7 @@ module _ {v : ledger.View} (owns : ℕ → Bool) (w : ℕ) (own : (e : ℕ) → 
       record {
         fits = a.fits;
         state = set_use (λ f. map_loan g (s.what f)) s;
-        run = Meaning.loosened a.run (end_built w) (end_allowed s c w lt z);
+        run = Meaning.loosened a.run (all_built _) (end_allowed s c w lt z);
         shape = a.shape;
         drained_are = a.drained_are;
         undrained_are = a.undrained_are;

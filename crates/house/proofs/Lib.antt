@@ -56,3 +56,4 @@ pub mod Settled
 pub mod LettingGo
 pub mod EndedPlaces
 pub mod Ends
+pub mod Refused

@@ -1,5 +1,5 @@
 -- open: when it is refused, and what it makes of the room and the machine.
-use Rattle.std.proofs.Common.{◌≡◌, ℕ, suc, ◌+◌, ◌<◌, true, cond, not, ◌&&◌, ◌||◌, T, eqb, ◌⊎◌, List, [], ◌∷◌, sym, refl, ap, ◌∙◌, subst, inl, inr, ⊎_elim, add-one, arith, eqb→eq}
+use Rattle.std.proofs.Common.{◌≡◌, ℕ, suc, ◌+◌, ◌<◌, true, cond, not, ◌&&◌, ◌||◌, T, eqb, ◌⊎◌, List, [], ◌∷◌, sym, refl, ap, ◌∙◌, subst, inl, inr, ⊎_elim, add-one, eqb→eq}
 use Rattle.std.proofs.lemmas.Bool.{false≢true, lt-leb, le-leb, cases_eq, eq-eqb, ne_eqb}
 use Rattle.ledger.specs.declared.Which.TheVariants as which
 use Rattle.ledger.specs.declared.Use.TheVariants as used
@@ -32,7 +32,7 @@ use Rattle.house.proofs.Steps.{steps_same}
 use Rattle.house.proofs.Between.{holds_steps, keeps_done, keeps_why}
 use Rattle.house.proofs.Idle.{idle_meant, clears_idle}
 use Rattle.house.proofs.Getting.{idle_seen}
-use Rattle.house.proofs.Built.{open_built}
+use Rattle.house.proofs.Built.{all_built}
 
 -- a device that another program holds
 other_meant : (c : ℕ) (x : Device) → T (not (is_shut (dev_meant x))) → T (not (owner_is c (dev_meant x))) → held_by_other c x ≡ true
@@ -108,7 +108,7 @@ open_done {v} {c} {d} {f} {h} co i lt e x g b y z a =
     record {
       fits = a.fits;
       state = set_dev (λ k. cond (eqb k d) (Opened c) (s.dev k)) table;
-      run = Meaning.acted f a.run (open_built d) w (idle_frame s co a.kept i2 f b2 y).0 tt;
+      run = Meaning.acted f a.run (all_built _) w (idle_frame s co a.kept i2 f b2 y).0 tt;
       shape = a.shape;
       drained_are = a.drained_are;
       undrained_are = a.undrained_are;
@@ -149,22 +149,22 @@ open_refused {room} {who} {d} {h} {es} e b r =
     i = subst (λ (z : ℕ). Inside z v) (sym q.frames_are) (inside_room h.frames room)
 
     go : (e : Refusal) → OpenRefused v s.frames s.devices s.group s.driver who d e → Keeps room Quiet h (Told who (Open d) (No (number_of e)) ∷ es)
-    go OutOfRange x = keeps_why 1 (open_built d) b (rw (le-leb s.devices d x)) (omega arith)
+    go OutOfRange x = keeps_why OutOfRange b (rw (le-leb s.devices d x))
     go NoPage x = absurd x
     go Occupied x = absurd x
     go WrongLoan x = absurd x
-    go NotYours x = keeps_why 5 (open_built d) b (rw (lt-leb s.devices d x.0, ne_eqb (s.driver d) who x.1)) (omega arith)
+    go NotYours x = keeps_why NotYours b (rw (lt-leb s.devices d x.0, ne_eqb (s.driver d) who x.1))
     go Held x =
-        keeps_why 6 (open_built d) b
-        (rw (lt-leb s.devices d x.0, eq-eqb (s.driver d) who x.1, is_true (not (is_shut (s.dev d)) || foreign s who d) (held_by_some s b.holds.kept who d x.2))) (omega arith)
+        keeps_why Held b
+        (rw (lt-leb s.devices d x.0, eq-eqb (s.driver d) who x.1, is_true (not (is_shut (s.dev d)) || foreign s who d) (held_by_some s b.holds.kept who d x.2)))
     go NoFrame x =
-        keeps_why 7 (open_built d) b
+        keeps_why NoFrame b
         (rw (
           lt-leb s.devices d x.0,
           eq-eqb (s.driver d) who x.1,
           is_false (not (is_shut (s.dev d)) || foreign s who d) (free_to_open s b.holds.kept who d x.2 x.3),
           is_true (full s) (no_idle s b.tidy.coherent b.holds.kept i x.4),
-        )) (omega arith)
+        ))
     go NotPermitted x = absurd x
     go NotBuilt x = absurd x
 

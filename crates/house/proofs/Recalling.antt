@@ -34,16 +34,17 @@ use Rattle.house.proofs.Tables.{put_entry, low_not_root}
 use Rattle.house.proofs.PageWords.{words_page, words_put}
 use Rattle.house.proofs.Steps.{steps_same, drain_split}
 use Rattle.house.proofs.Between.{holds_steps, keeps_told, keeps_done, keeps_why}
+use Rattle.house.proofs.Mappings.{mapping}
 use Rattle.house.proofs.Idle.{steps_quiet}
 use Rattle.house.proofs.Draining.{holds_heard}
-use Rattle.house.proofs.Built.{recall_built}
+use Rattle.house.proofs.Built.{all_built}
 
 -- LOANS
 recalled_meant : (l : loans.Loan) → leaving (loan_meant l) ≡ loan_meant (recalled l)
 unfolding leaving loan_meant
 recalled_meant loan.Home = refl
-recalled_meant (loan.Lent d p w) = refl
-recalled_meant (loan.Leaving d p w) = refl
+recalled_meant (loan.Lent m) = refl
+recalled_meant (loan.Leaving m) = refl
 
 -- a loan that leaves d is one to d, or leaves it already
 leaves_away : (l : Loan) (d p : ℕ) (w : Bool) → leaving l ≡ Leaving d p w → T (not (is_home l))
@@ -65,11 +66,11 @@ lent_at used.House c u d p w e = let z : ◌≡◌ {A = ℕ} 0 1 = cc in absurd 
 lent_at (used.TableOf a b) c u d p w e = let z : ◌≡◌ {A = ℕ} 0 1 = cc in absurd (omega arith)
 lent_at used.Idle c u d p w e = let z : ◌≡◌ {A = ℕ} 0 1 = cc in absurd (omega arith)
 lent_at (used.PageOf a b loan.Home) c u d p w e = let z : ◌≡◌ {A = ℕ} 0 1 = cc in absurd (omega arith)
-lent_at (used.PageOf a b (loan.Lent x y z)) c u d p w e =
-    let q : d ≡ x = cc in
-    let r : p ≡ y = cc in
-    and_from (eqb d x) (eqb p y) (eq-eqb d x q) (eq-eqb p y r)
-lent_at (used.PageOf a b (loan.Leaving x y z)) c u d p w e = let z : ◌≡◌ {A = ℕ} 0 1 = cc in absurd (omega arith)
+lent_at (used.PageOf a b (loan.Lent m)) c u d p w e =
+    let q : d ≡ m.device = cc in
+    let r : p ≡ m.page = cc in
+    and_from (eqb d m.device) (eqb p m.page) (eq-eqb d m.device q) (eq-eqb p m.page r)
+lent_at (used.PageOf a b (loan.Leaving m)) c u d p w e = let z : ◌≡◌ {A = ℕ} 0 1 = cc in absurd (omega arith)
 
 -- FOUND: what the meaning has of a page that a device has
 record Found (s : State) (c u f d p : ℕ) (w : Bool) : Type 0 where
@@ -79,7 +80,7 @@ record Found (s : State) (c u f d p : ℕ) (w : Bool) : Type 0 where
   leaves : leaving (Meaning.loan s c u) ≡ Leaving d p w
   device : device_of (Meaning.loan s c u) ≡ d
 
-found : {v : ledger.View} {c u f d p t : ℕ} {w : Bool} (s : State) → Coherent v → Kept v s → Inside s.frames v → u < 1024 → Away v c u f d p t w → Found s c u f d p w
+found : {v : ledger.View} {c u f d p t : ℕ} {w : Bool} (s : State) → Coherent v → Kept v s → Inside s.frames v → u < 1024 → Away v c u f t (mapping d p w) → Found s c u f d p w
 unfolding why loan_meant loan_of
 found {v} {c} {u} {f} {d} {p} {t} {w} s co k i lt a =
     let x = page_there co c u f a.shown in
@@ -97,8 +98,8 @@ found {v} {c} {u} {f} {d} {p} {t} {w} s co k i lt a =
 
 -- LETTING GO
 -- the page is leaving, as far as the meaning goes
-pub recall_loosened : {v : ledger.View} {c u f d p t : ℕ} {w : Bool} {h : Hw} {es : List Event} {xs ys : List ℕ} → Coherent v → Inside h.frames v → u < 1024 → Away v c u f d p t w →
-    Holds v (nothing_cut xs ys) (Under c (Recall u)) h es → Holds (with_loan c u f (loan.Leaving d p w) v) (nothing_cut xs ys) (Under c (Recall u)) h es
+pub recall_loosened : {v : ledger.View} {c u f d p t : ℕ} {w : Bool} {h : Hw} {es : List Event} {xs ys : List ℕ} → Coherent v → Inside h.frames v → u < 1024 → Away v c u f t (mapping d p w) →
+    Holds v (nothing_cut xs ys) (Under c (Recall u)) h es → Holds (with_loan c u f (loan.Leaving (mapping d p w)) v) (nothing_cut xs ys) (Under c (Recall u)) h es
 unfolding loosens use_meant loan_meant
 recall_loosened {v} {c} {u} {f} {d} {p} {t} {w} {h} {es} co i lt x a =
     let s = a.state in
@@ -108,11 +109,11 @@ recall_loosened {v} {c} {u} {f} {d} {p} {t} {w} {h} {es} co i lt x a =
       state = set_use (use_at f (Of c u (Leaving d p w)) s.what) s;
       run =
           subst (λ (l : Loan). Meaning.Run can (start_of h) es (set_use (use_at f (Of c u l) s.what) s) (Under c (Recall u))) g.leaves
-          (subst (λ (j : ℕ). Meaning.Run can (start_of h) es (set_use (use_at j (Of c u (leaving (Meaning.loan s c u))) s.what) s) (Under c (Recall u))) g.frame (Meaning.loosened a.run (recall_built u) g.allowed));
+          (subst (λ (j : ℕ). Meaning.Run can (start_of h) es (set_use (use_at j (Of c u (leaving (Meaning.loan s c u))) s.what) s) (Under c (Recall u))) g.frame (Meaning.loosened a.run (all_built _) g.allowed));
       shape = a.shape;
       drained_are = a.drained_are;
       undrained_are = a.undrained_are;
-      kept = kept_use s a.kept f (used.PageOf c u (loan.Leaving d p w));
+      kept = kept_use s a.kept f (used.PageOf c u (loan.Leaving (mapping d p w)));
       sound = subst (λ (l : Loan). SoundAt (tables_in v) (view_of (set_use (use_at f (Of c u l) s.what) s)) h) g.leaves (use_leaving a.sound f c u (Meaning.loan s c u) g.is);
       words = words_page (view_of s) a.words f c u (Meaning.loan s c u) (Of c u (Leaving d p w)) g.is;
       live = a.live;
@@ -164,9 +165,9 @@ pub record Left (v : ledger.View) (n c u f d p t : ℕ) (w : Bool) : Type 0 wher
   pub coherent : Coherent v
   pub inside : Inside n v
   pub place : u < 1024
-  pub is : v.used f ≡ used.PageOf c u (loan.Leaving d p w)
+  pub is : v.used f ≡ used.PageOf c u (loan.Leaving (mapping d p w))
   pub table : v.low d (p / 512) ≡ suc t
-  pub page : Away v c u f d p t w
+  pub page : Away v c u f t (mapping d p w)
 
 -- nothing is lent where a page is leaving
 left_alone : {v : ledger.View} {n c u f d p t : ℕ} {w : Bool} → Left v n c u f d p t w → (s : State) → Kept v s → (g a b : ℕ) (x : Bool) → s.what g ≡ Of a b (Lent d p x) → ⊥
@@ -222,7 +223,7 @@ recall_home {v} {h} {es} {n} {c} {u} {f} {d} {p} {t} {w} {xs} {ys} l q clear for
       state = set_use (use_at f (Of c u Home) s.what) s;
       run =
           subst (λ (o : Out). Meaning.Run can (start_of h) es o.state (Over c (Recall u) o.answer)) (acts_home s g i)
-          (Meaning.acted 0 a.run (recall_built u) g.allowed tt (left (is_in (device_of (Meaning.loan s c u)) s.drained) (is_in (device_of (Meaning.loan s c u)) s.undrained) j));
+          (Meaning.acted 0 a.run (all_built _) g.allowed tt (left (is_in (device_of (Meaning.loan s c u)) s.drained) (is_in (device_of (Meaning.loan s c u)) s.undrained) j));
       shape = a.shape;
       drained_are = a.drained_are;
       undrained_are = a.undrained_are;
@@ -250,7 +251,7 @@ recall_leaving {v} {h} {es} {n} {c} {u} {f} {d} {p} {t} {w} {ys} l q a =
       state = s;
       run =
           subst (λ (o : Out). Meaning.Run can (start_of h) es o.state (Over c (Recall u) o.answer)) (acts_later s g (left_what l s a.kept) (subst (λ (x : List ℕ). T (not (is_in d x))) (sym a.drained_are) tt))
-          (Meaning.acted 0 a.run (recall_built u) g.allowed tt (right (is_in (device_of (Meaning.loan s c u)) s.drained) (is_in (device_of (Meaning.loan s c u)) s.undrained) j));
+          (Meaning.acted 0 a.run (all_built _) g.allowed tt (right (is_in (device_of (Meaning.loan s c u)) s.drained) (is_in (device_of (Meaning.loan s c u)) s.undrained) j));
       shape = a.shape;
       drained_are = a.drained_are;
       undrained_are = a.undrained_are;
@@ -285,14 +286,14 @@ recall_refused {room} {who} {u} {n} {h} {es} e q b r = go e (subst (λ (z : ℕ)
     i = subst (λ (z : ℕ). Inside z v) (sym b.holds.shape.frames_are) (inside_room h.frames room)
 
     go : (e : Refusal) → RecallRefused v who u e → Keeps room Quiet h (Told who (Recall u) (No (number_of e)) ∷ es)
-    go OutOfRange x = keeps_why 1 (recall_built u) b (rw (le-leb 1024 u x)) (omega arith)
-    go NoPage x = keeps_why 2 (recall_built u) b (rw (lt-leb 1024 u x.0, is_false (has s who u) (table_at_no_page s b.tidy.coherent b.holds.kept i who u x.1))) (omega arith)
+    go OutOfRange x = keeps_why OutOfRange b (rw (le-leb 1024 u x))
+    go NoPage x = keeps_why NoPage b (rw (lt-leb 1024 u x.0, is_false (has s who u) (table_at_no_page s b.tidy.coherent b.holds.kept i who u x.1)))
     go Occupied x = absurd x
     go WrongLoan x =
         let p = page_has s b.tidy.coherent b.holds.kept i who u x.1.0 x.1.1 in
         let w : Meaning.loan s who u ≡ Home = loan_there s b.tidy.coherent b.holds.kept i who u x.1.0 x.1.1 ∙ ap loan_meant x.1.2 in
         let o : is_home (Meaning.loan s who u) ≡ true = ap is_home w in
-        keeps_why 4 (recall_built u) b (rw (lt-leb 1024 u x.0, is_true (has s who u) p.0, o)) (omega arith)
+        keeps_why WrongLoan b (rw (lt-leb 1024 u x.0, is_true (has s who u) p.0, o))
     go NotYours x = absurd x
     go Held x = absurd x
     go NoFrame x = absurd x
@@ -314,16 +315,16 @@ table_home x d e = subst (λ (y : Use). T (is_home (loan_of y))) (sym e) tt
 table_quiet : {v : ledger.View} {g : Progress} {n : Now} {h j : Hw} {es gs : List Event} (a : Holds v g n h es) (d i t k : ℕ) → v.low d i ≡ suc t → Steps h es j gs → j.mem t k ≡ h.mem t k
 table_quiet a d i t k e m = steps_quiet a m t k (table_home (a.state.what t) d (table_is a d i t e).1)
 
-unmapped : {room room2 : List ℕ} {who u n f d p t : ℕ} {w : Bool} {h i : Hw} {es fs : List Event} → n ≡ h.frames → Begins room who (Recall u) h es → u < 1024 → Away (ledger.view_of n room) who u f d p t w →
-    Consistent n room2 → ledger.view_of n room2 ≡ with_loan who u f (loan.Leaving d p w) (ledger.view_of n room) → Steps (counted (with_mem (put t (p % 512) 0 h.mem) h)) es i fs → Unmapped (ledger.view_of n room2) n who u f d p t w i fs
+unmapped : {room room2 : List ℕ} {who u n f d p t : ℕ} {w : Bool} {h i : Hw} {es fs : List Event} → n ≡ h.frames → Begins room who (Recall u) h es → u < 1024 → Away (ledger.view_of n room) who u f t (mapping d p w) →
+    Consistent n room2 → ledger.view_of n room2 ≡ with_loan who u f (loan.Leaving (mapping d p w)) (ledger.view_of n room) → Steps (counted (with_mem (put t (p % 512) 0 h.mem) h)) es i fs → Unmapped (ledger.view_of n room2) n who u f d p t w i fs
 unmapped {room} {room2} {who} {u} {n} {f} {d} {p} {t} {w} {h} {i} {es} {fs} q b lt x k e m =
     let v = ledger.view_of n room in
     let v2 = ledger.view_of n room2 in
     let a : Holds v (nothing_cut [] []) (Under who (Recall u)) h es = subst (λ (z : ℕ). Holds (ledger.view_of z room) (nothing_cut [] []) (Under who (Recall u)) h es) (sym q) b.holds in
     let co : Coherent v = subst (λ (z : ℕ). Coherent (ledger.view_of z room)) (sym q) b.tidy.coherent in
-    let is : v2.used f ≡ used.PageOf who u (loan.Leaving d p w) = ap (λ (z : ledger.View). z.used f) e ∙ here f (used.PageOf who u (loan.Leaving d p w)) (v.used f) in
+    let is : v2.used f ≡ used.PageOf who u (loan.Leaving (mapping d p w)) = ap (λ (z : ledger.View). z.used f) e ∙ here f (used.PageOf who u (loan.Leaving (mapping d p w))) (v.used f) in
     let table : v2.low d (p / 512) ≡ suc t = ap (λ (z : ledger.View). z.low d (p / 512)) e ∙ x.table in
-    let page : Away v2 who u f d p t w = record { shown = page_shown k.coherent who u f (loan.Leaving d p w) is; loan = ap (λ (z : uses.Use). recalled (tests.loan_in z)) is; device = x.device; page = x.page; table = table } in
+    let page : Away v2 who u f t (mapping d p w) = record { shown = page_shown k.coherent who u f (loan.Leaving (mapping d p w)) is; loan = ap (λ (z : uses.Use). recalled (tests.loan_in z)) is; device = x.device; page = x.page; table = table } in
     let l : Left v2 n who u f d p t w = record { coherent = k.coherent; inside = inside_room n room2; place = lt; is = is; table = table; page = page } in
     let c : Holds v2 (nothing_cut [] []) (Under who (Recall u)) h es =
     subst (λ (z : ledger.View). Holds z (nothing_cut [] []) (Under who (Recall u)) h es) (sym e) (recall_loosened co (subst (λ (z : ℕ). Inside z v) q (inside_room n room)) lt x a)
@@ -337,8 +338,8 @@ unmapped {room} {room2} {who} {u} {n} {f} {d} {p} {t} {w} {h} {i} {es} {fs} q b 
     }
 
 -- the unit has forgotten the device: done
-recall_done : {room room2 room3 : List ℕ} {who u n f d p t : ℕ} {w : Bool} {h i j : Hw} {es fs gs : List Event} → n ≡ h.frames → Begins room who (Recall u) h es → u < 1024 → Away (ledger.view_of n room) who u f d p t w →
-    Consistent n room2 → ledger.view_of n room2 ≡ with_loan who u f (loan.Leaving d p w) (ledger.view_of n room) → Steps (counted (with_mem (put t (p % 512) 0 h.mem) h)) es i fs → Drains d i fs true j gs →
+recall_done : {room room2 room3 : List ℕ} {who u n f d p t : ℕ} {w : Bool} {h i j : Hw} {es fs gs : List Event} → n ≡ h.frames → Begins room who (Recall u) h es → u < 1024 → Away (ledger.view_of n room) who u f t (mapping d p w) →
+    Consistent n room2 → ledger.view_of n room2 ≡ with_loan who u f (loan.Leaving (mapping d p w)) (ledger.view_of n room) → Steps (counted (with_mem (put t (p % 512) 0 h.mem) h)) es i fs → Drains d i fs true j gs →
     Consistent n room3 → ledger.view_of n room3 ≡ with_loan who u f loan.Home (ledger.view_of n room2) → Keeps room3 Quiet j (Told who (Recall u) Done ∷ gs)
 recall_done {d = d} {p = p} {t = t} q b lt x k e m y k3 e3 =
     let o = unmapped q b lt x k e m in
@@ -350,8 +351,8 @@ recall_done {d = d} {p = p} {t = t} q b lt x k e m y k3 e3 =
     keeps_done ((steps_same z.after).frames ∙ sym r) k3 e3 (holds_steps g z.after)
 
 -- it has not: later
-recall_later : {room room2 : List ℕ} {who u n f d p t : ℕ} {w : Bool} {h i j : Hw} {es fs gs : List Event} → n ≡ h.frames → Begins room who (Recall u) h es → u < 1024 → Away (ledger.view_of n room) who u f d p t w →
-    Consistent n room2 → ledger.view_of n room2 ≡ with_loan who u f (loan.Leaving d p w) (ledger.view_of n room) → Steps (counted (with_mem (put t (p % 512) 0 h.mem) h)) es i fs → Drains d i fs false j gs →
+recall_later : {room room2 : List ℕ} {who u n f d p t : ℕ} {w : Bool} {h i j : Hw} {es fs gs : List Event} → n ≡ h.frames → Begins room who (Recall u) h es → u < 1024 → Away (ledger.view_of n room) who u f t (mapping d p w) →
+    Consistent n room2 → ledger.view_of n room2 ≡ with_loan who u f (loan.Leaving (mapping d p w)) (ledger.view_of n room) → Steps (counted (with_mem (put t (p % 512) 0 h.mem) h)) es i fs → Drains d i fs false j gs →
     Keeps room2 Quiet j (Told who (Recall u) Later ∷ gs)
 recall_later {d = d} q b lt x k e m y =
     let o = unmapped q b lt x k e m in
@@ -362,8 +363,8 @@ recall_later {d = d} q b lt x k e m y =
     let s = (steps_same z.after).frames ∙ sym r in
     keeps_told s k refl g (later_told o.left (sym s) g)
 
-pub recall_settled : {room room2 room3 : List ℕ} {who u n f d p t : ℕ} {w : Bool} {h i j : Hw} {es fs gs : List Event} (r : Answer) → n ≡ h.frames → Begins room who (Recall u) h es → u < 1024 → Away (ledger.view_of n room) who u f d p t w →
-    Consistent n room2 → ledger.view_of n room2 ≡ with_loan who u f (loan.Leaving d p w) (ledger.view_of n room) → Steps (counted (with_mem (put t (p % 512) 0 h.mem) h)) es i fs → Settled n who u f d room2 room3 i fs j gs r →
+pub recall_settled : {room room2 room3 : List ℕ} {who u n f d p t : ℕ} {w : Bool} {h i j : Hw} {es fs gs : List Event} (r : Answer) → n ≡ h.frames → Begins room who (Recall u) h es → u < 1024 → Away (ledger.view_of n room) who u f t (mapping d p w) →
+    Consistent n room2 → ledger.view_of n room2 ≡ with_loan who u f (loan.Leaving (mapping d p w)) (ledger.view_of n room) → Steps (counted (with_mem (put t (p % 512) 0 h.mem) h)) es i fs → Settled n who u f d room2 room3 i fs j gs r →
     Keeps room3 Quiet j (Told who (Recall u) r ∷ gs) × IfNo r ⊥
 recall_settled Done q b lt x k e m o = (recall_done q b lt x k e m o.0 o.1 o.2, tt)
 recall_settled {who = who} {u = u} {j = j} {gs = gs} Later q b lt x k e m o = (subst (λ (r : List ℕ). Keeps r Quiet j (Told who (Recall u) Later ∷ gs)) (sym o.1) (recall_later q b lt x k e m o.0), tt)

@@ -66,8 +66,8 @@ loans_home = lending.Home
 away_meant : (l : loans.Loan) → (l ≡ loans_home → ⊥) → T (not (is_home (loan_meant l)))
 unfolding is_home loan_meant
 away_meant lending.Home n = absurd (n refl)
-away_meant (lending.Lent d p w) n = tt
-away_meant (lending.Leaving d p w) n = tt
+away_meant (lending.Lent m) n = tt
+away_meant (lending.Leaving m) n = tt
 
 -- a use that is a page of c at u, in the words of the meaning
 pub of_page : (c u : ℕ) (x : uses.Use) → T (is_of c u (use_meant x)) → (l : loans.Loan) × (x ≡ used.PageOf c u l)

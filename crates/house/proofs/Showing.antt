@@ -1,5 +1,5 @@
 -- regs: when it is refused, and what it makes of the room and the machine.
-use Rattle.std.proofs.Common.{◌≡◌, ℕ, suc, ◌<◌, ◌≤◌, true, false, cond, not, ◌&&◌, ◌||◌, T, eqb, leb, ◌⊎◌, List, [], ◌∷◌, sym, refl, ap, ◌∙◌, subst, inl, inr, arith}
+use Rattle.std.proofs.Common.{◌≡◌, ℕ, suc, ◌<◌, ◌≤◌, true, false, cond, not, ◌&&◌, ◌||◌, T, eqb, leb, ◌⊎◌, List, [], ◌∷◌, sym, refl, ap, ◌∙◌, subst, inl, inr}
 use Rattle.std.proofs.lemmas.Bool.{lt-leb, le-leb}
 use Rattle.ledger.specs.declared.Place.TheVariants as place
 use Rattle.ledger.specs.declared.Device.{Device}
@@ -23,7 +23,7 @@ use Rattle.house.proofs.Rooms.{Inside, inside_room, vacant, occupied}
 use Rattle.house.proofs.Keeping.{kept_registers, shown_change}
 use Rattle.house.proofs.Steps.{steps_same}
 use Rattle.house.proofs.Between.{holds_steps, keeps_done, keeps_why}
-use Rattle.house.proofs.Built.{regs_built}
+use Rattle.house.proofs.Built.{all_built}
 
 opened_meant : (c : ℕ) (x : Device) → x ≡ device.Opened c → T (open_by c (dev_meant x))
 unfolding open_by dev_meant
@@ -60,7 +60,7 @@ regs_done {v} {c} {d} {u} {h} co i b lt e x a =
     record {
       fits = a.fits;
       state = set_regs (λ w y. cond (eqb w c && eqb y u) (suc d) (s.regs w y)) s;
-      run = Meaning.acted 0 a.run (regs_built d u) (regs_allowed s co a.kept i2 c d u b2 lt e x) tt tt;
+      run = Meaning.acted 0 a.run (all_built _) (regs_allowed s co a.kept i2 c d u b2 lt e x) tt tt;
       shape = a.shape;
       drained_are = a.drained_are;
       undrained_are = a.undrained_are;
@@ -90,17 +90,17 @@ regs_refused {room} {who} {d} {u} {m} {h} {es} e q b r = go e (subst (λ (z : �
     i = subst (λ (z : ℕ). Inside z v) (sym b.holds.shape.frames_are) (inside_room h.frames room)
 
     go : (e : Refusal) → RegsRefused v.place v.device s.devices who d u e → Keeps room Quiet h (Told who (Regs d u) (No (number_of e)) ∷ es)
-    go OutOfRange x = keeps_why 1 (regs_built d u) b (rw (out_of_range s.devices d u x)) (omega arith)
+    go OutOfRange x = keeps_why OutOfRange b (rw (out_of_range s.devices d u x))
     go NoPage x = absurd x
-    go Occupied x = keeps_why 3 (regs_built d u) b (rw (in_range s.devices d u x.0 x.1, is_true (taken s who u) (occupied s b.tidy.coherent b.holds.kept i who u x.2))) (omega arith)
+    go Occupied x = keeps_why Occupied b (rw (in_range s.devices d u x.0 x.1, is_true (taken s who u) (occupied s b.tidy.coherent b.holds.kept i who u x.2)))
     go WrongLoan x = absurd x
     go NotYours x =
-        keeps_why 5 (regs_built d u) b
+        keeps_why NotYours b
         (rw (
           in_range s.devices d u x.0 x.1,
           is_false (taken s who u) (vacant s b.tidy.coherent b.holds.kept i who u x.2),
           is_false (open_by who (s.dev d)) (subst (λ (z : Dev). T (not (open_by who z))) (sym (b.holds.kept.devs_are d)) (unopened_meant who (v.device d) x.3)),
-        )) (omega arith)
+        ))
     go Held x = absurd x
     go NoFrame x = absurd x
     go NotPermitted x = absurd x

@@ -26,8 +26,8 @@ below n q e = nat_lt e n && q e
 -- all the devices of c that are `mine`: shut where `gone`, and else closing
 abbrev pub closed_loan : (mine gone : ℕ → Bool) → Loan → Loan
 closed_loan mine gone Home = Home
-closed_loan mine gone (Lent d p w) = cond (mine d) (cond (gone d) Home (Leaving d p w)) (Lent d p w)
-closed_loan mine gone (Leaving d p w) = cond (mine d) (cond (gone d) Home (Leaving d p w)) (Leaving d p w)
+closed_loan mine gone (Lent m) = cond (mine m.device) (cond (gone m.device) Home (Leaving m)) (Lent m)
+closed_loan mine gone (Leaving m) = cond (mine m.device) (cond (gone m.device) Home (Leaving m)) (Leaving m)
 
 abbrev pub closed_use : (mine gone : ℕ → Bool) → Use → Use
 closed_use mine gone House = House

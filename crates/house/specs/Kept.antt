@@ -16,8 +16,8 @@ use Rattle.house.specs.Sound.{Tables}
 
 unfoldable pub loan_meant : loans.Loan → Loan
 loan_meant loan.Home = Home
-loan_meant (loan.Lent d p w) = Lent d p w
-loan_meant (loan.Leaving d p w) = Leaving d p w
+loan_meant (loan.Lent m) = Lent m.device m.page m.writes
+loan_meant (loan.Leaving m) = Leaving m.device m.page m.writes
 
 unfoldable pub use_meant : uses.Use → Use
 use_meant used.House = House

@@ -17,3 +17,5 @@ pub mod Mappings
 pub mod Lends
 pub mod Unmapping
 pub mod Closures
+pub mod Sweeps
+pub mod Taken

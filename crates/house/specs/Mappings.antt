@@ -1,8 +1,9 @@
 -- A page that a device has: lent to it, or on its way back.
 -- Nothing is assumed here.
-use Rattle.std.specs.Prelude.{◌≡◌, ℕ, suc, ◌/◌, ◌<◌, Bool, true, false, List}
+use Rattle.std.specs.Prelude.{◌≡◌, ℕ, suc, ◌/◌, ◌<◌, true, false, List}
 use Rattle.ledger.specs.declared.Loan.{Loan}
 use Rattle.ledger.specs.declared.Loan.TheVariants.{Home, Lent, Leaving}
+use Rattle.ledger.specs.declared.mapping.Mapping.{Mapping}
 use Rattle.ledger.specs.declared.Place.TheVariants as place
 use Rattle.ledger.specs.View as ledger
 use Rattle.ledger.specs.Uses.{loan_in}
@@ -16,16 +17,17 @@ use Rattle.house.specs.Machine.{Hw, Drains}
 -- what a loan is once it is recalled
 abbrev pub recalled : Loan → Loan
 recalled Home = Home
-recalled (Lent d p w) = Leaving d p w
-recalled (Leaving d p w) = Leaving d p w
+recalled (Lent m) = Leaving m
+recalled (Leaving m) = Leaving m
 
--- The page of c at u is in frame f, and lent to device d at its page p or leaving it there; the entry of p is in the lower table t.
-pub record Away (v : ledger.View) (c u f d p t : ℕ) (w : Bool) : Type 0 where
+-- The page of c at u is in frame f, and lent to a device at a page of it or leaving it there; the entry of that page is in the lower
+-- table t.
+pub record Away (v : ledger.View) (c u f t : ℕ) (to : Mapping) : Type 0 where
   pub shown : v.place c u ≡ place.Page f
-  pub loan : recalled (loan_in (v.used f)) ≡ Leaving d p w
-  pub device : d < 32
-  pub page : p < 262144
-  pub table : v.low d (p / 512) ≡ suc t
+  pub loan : recalled (loan_in (v.used f)) ≡ Leaving to
+  pub device : to.device < 32
+  pub page : to.page < 262144
+  pub table : v.low to.device (to.page / 512) ≡ suc t
 
 -- Device d was drained once, and the answer to that decides: the page of c at u, in frame f, is home, or the room is as it was.
 abbrev pub Settled : (n c u f d : ℕ) → (room room2 : List ℕ) → (h : Hw) → (es : List Event) → (j : Hw) → (gs : List Event) → Answer → Type 0

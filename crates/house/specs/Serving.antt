@@ -3,6 +3,7 @@
 use Rattle.std.specs.Prelude.{◌≡◌, ℕ, suc, ◌<◌, ◌≤◌, Bool, false, cond, T, List, []}
 use Rattle.ledger.specs.declared.Device.TheVariants as device
 use Rattle.ledger.specs.View as ledger
+use Rattle.ledger.specs.declared.room.Room.{Room}
 use Rattle.ledger.specs.Consistent.{Consistent}
 use Rattle.house.specs.declared.Call.{Call}
 use Rattle.house.specs.Event.{Event}
@@ -64,3 +65,13 @@ pub record Begins (room : List ℕ) (who : ℕ) (c : Call) (h : Hw) (es : List E
   pub tidy : Consistent h.frames room
   pub program : who < 32
   pub holds : Holds (ledger.view_of h.frames room) (nothing_cut [] []) (Under who c) h es
+
+-- the same where the room is open, for the machine's frames
+pub record BeginsIn (room : Room) (who : ℕ) (c : Call) (h : Hw) (es : List Event) : Type 0 where
+  pub frames : room.frames ≡ h.frames
+  pub begins : Begins room.words.now who c h es
+
+-- between calls, in the same lent words as before
+pub record KeepsIn (before after : Room) (n : Now) (h : Hw) (es : List Event) : Type 0 where
+  pub lender : after.words.ghost_name ≡ before.words.ghost_name
+  pub keeps : Keeps after.words.now n h es

@@ -1,107 +1,101 @@
-// An idle frame in hand: it is made noughts, and then becomes something. It cannot be copied, and may be let go only once it has
-// become something, so no frame is lost or given twice on any way out of a call.
+// An idle frame in hand: it is made noughts, and then becomes something, which takes it apart. It cannot be copied or let go, so
+// no frame is lost or given twice on any way out of a call.
 ghost use Rattle.std.specs.Prelude.{◌≡◌, ℕ, ◌+◌, ◌*◌, ◌<◌, ◌≤◌, false, T, length, MatchResult, ◌≢◌};
 ghost use Rattle.ledger.specs.declared.Use.TheVariants.{Idle};
 ghost use Rattle.ledger.specs.declared.Place.TheVariants.{Nothing};
 ghost use Rattle.ledger.specs.declared.Device.TheVariants.{Shut};
 ghost use Rattle.ledger.specs.Room.{use_of, place_of, device_of, low_of};
-ghost use Rattle.ledger.specs.View.{view_of};
-ghost use Rattle.ledger.specs.Consistent.{Consistent};
 ghost use Rattle.ledger.specs.Changes.{new_page, opened_by, lower_at};
+ghost use Rattle.ledger.specs.Rooms.{says, Becomes};
 ghost use Rattle.ledger.specs.Uses.{is_shut};
 ghost use Rattle.house.specs.Operations.{Cleared};
 
 use crate::Machine;
 use crate::refusals::Refusal;
-use ledger::pages::new_page;
 use ledger::searches::find_idle;
-use ledger::tables::{add_lower, open_device};
+use ledger::{Address, Room, Slot};
 
 pub struct Taken {
     frame: u32,
-    settled: bool,
 }
 
+// Only frame 0 could be let go, and that is never idle. A drop of this kind, and not no Drop: so it is a proof that fails where a
+// frame would be lost.
 impl Drop for Taken {
     fn drop(self)
-        requires { T self.settled }
+        requires { self.frame ≡ 0 }
     {
-        let Taken {
-            frame: _,
-            settled: _,
-        } = self;
+        let Taken { frame: _ } = self;
     }
 }
 
 impl Taken {
     // Some idle frame, looked for from `from` on.
-    pub fn take(room: &[u64], frames: u32, from: u32) -> Result<Taken, Refusal>
-        requires { 65536 + 2 * frames ≤ length room.now }
-        ensures { MatchResult result (λ t. (t.settled ≡ false) × (t.frame < frames) × (use_of room.now t.frame ≡ Idle)) (λ e. (e ≡ Refusal.NoFrame) × ((f : ℕ) → f < frames → use_of room.now f ≢ Idle)) }
+    pub fn take(room: &Room, from: u32) -> Result<Taken, Refusal>
+        ensures { MatchResult result (λ t. (t.frame < room.now.frames) × (use_of room.now.words.now t.frame ≡ Idle)) (λ e. (e ≡ Refusal.NoFrame) × ((f : ℕ) → f < room.now.frames → use_of room.now.words.now f ≢ Idle)) }
     {
-        match find_idle(room, frames, from) {
-            Some(frame) => Ok(Taken {
-                frame,
-                settled: false,
-            }),
+        match find_idle(room.words(), room.frames(), from) {
+            Some(frame) => Ok(Taken { frame }),
             None => Err(Refusal::NoFrame),
         }
     }
 
     // Makes it noughts.
     pub fn clear<M: Machine>(&self, w: &mut M)
-        requires { (512 ≤ (M.hw w.old).left) × (self.now.frame < (M.hw w.old).frames) }
+        requires soon { 512 ≤ (M.hw w.old).left }
+        requires frame { self.now.frame < (M.hw w.old).frames }
         ensures { Cleared self.now.frame (M.hw w.old) (M.seen w.old) 512 (M.hw w.new) (M.seen w.new) }
     {
         clear(w, self.frame);
     }
 
-    // It becomes the page of `who` at v, where nothing was shown.
-    pub fn into_page(mut self, room: &mut [u64], frames: u32, who: u32, v: u32) -> u32
-        requires consistent { Consistent frames room.old }
-        requires place { (who < 32) × ((v < 1024) × (place_of room.old who v ≡ Nothing)) }
-        requires frame { (self.frame < frames) × (use_of room.old self.frame ≡ Idle) }
+    // It becomes the page at a place where nothing was shown.
+    pub fn into_page(self, room: &mut Room, at: Address) -> u32
+        requires place { place_of room.old.words.now at.who at.v ≡ Nothing }
+        requires within { self.frame < room.old.frames }
+        requires idle { use_of room.old.words.now self.frame ≡ Idle }
         ensures frame { result ≡ self.frame }
-        ensures view { view_of frames room.new ≡ new_page who v self.frame (view_of frames room.old) }
-        ensures consistent { Consistent frames room.new }
+        ensures room { Becomes room.old (new_page at.who at.v self.frame (says room.old)) room.new }
     {
-        new_page(room, frames, who, v, self.frame);
-        self.settled = true;
-        self.frame
+        let Taken { frame } = self;
+        room.new_page(at, frame);
+        frame
     }
 
     // It becomes the upper table of d, which was shut and which `who` has open now.
-    pub fn into_upper_table(mut self, room: &mut [u64], frames: u32, who: u32, d: u32) -> u32
-        requires consistent { Consistent frames room.old }
-        requires device { (who < 32) × ((d < 32) × (device_of room.old d ≡ Shut)) }
-        requires frame { (self.frame < frames) × (use_of room.old self.frame ≡ Idle) }
+    pub fn into_upper_table(self, room: &mut Room, who: u32, d: u32) -> u32
+        requires program { who < 32 }
+        requires device { d < 32 }
+        requires shut { device_of room.old.words.now d ≡ Shut }
+        requires within { self.frame < room.old.frames }
+        requires idle { use_of room.old.words.now self.frame ≡ Idle }
         ensures frame { result ≡ self.frame }
-        ensures view { view_of frames room.new ≡ opened_by who d self.frame (view_of frames room.old) }
-        ensures consistent { Consistent frames room.new }
+        ensures room { Becomes room.old (opened_by who d self.frame (says room.old)) room.new }
     {
-        open_device(room, frames, who, d, self.frame);
-        self.settled = true;
-        self.frame
+        let Taken { frame } = self;
+        room.open_device(who, d, frame);
+        frame
     }
 
-    // It becomes the lower table of d at a slot that had none.
-    pub fn into_lower_table(mut self, room: &mut [u64], frames: u32, d: u32, slot: u32) -> u32
-        requires consistent { Consistent frames room.old }
-        requires device { (d < 32) × ((slot < 512) × ((is_shut (device_of room.old d) ≡ false) × (low_of room.old d slot ≡ 0))) }
-        requires frame { (self.frame < frames) × (use_of room.old self.frame ≡ Idle) }
+    // It becomes the lower table of a device at a slot that had none.
+    pub fn into_lower_table(self, room: &mut Room, at: Slot) -> u32
+        requires live { is_shut (device_of room.old.words.now at.device) ≡ false }
+        requires missing { low_of room.old.words.now at.device at.index ≡ 0 }
+        requires within { self.frame < room.old.frames }
+        requires idle { use_of room.old.words.now self.frame ≡ Idle }
         ensures frame { result ≡ self.frame }
-        ensures view { view_of frames room.new ≡ lower_at d slot self.frame (view_of frames room.old) }
-        ensures consistent { Consistent frames room.new }
+        ensures room { Becomes room.old (lower_at at.device at.index self.frame (says room.old)) room.new }
     {
-        add_lower(room, frames, d, slot, self.frame);
-        self.settled = true;
-        self.frame
+        let Taken { frame } = self;
+        room.add_lower(at, frame);
+        frame
     }
 }
 
 // Writes 0 into every word of a frame.
 pub fn clear<M: Machine>(w: &mut M, frame: u32)
-    requires { (512 ≤ (M.hw w.old).left) × (frame < (M.hw w.old).frames) }
+    requires soon { 512 ≤ (M.hw w.old).left }
+    requires frame { frame < (M.hw w.old).frames }
     ensures { Cleared frame (M.hw w.old) (M.seen w.old) 512 (M.hw w.new) (M.seen w.new) }
 {
     for k in 0..512 {

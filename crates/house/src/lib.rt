@@ -7,7 +7,7 @@ ghost use Rattle.house.specs.Machine.{Hw, Frame, Registers, Nothing, AtStart, St
 ghost use Rattle.house.specs.Meaning.{Explained, Quiet};
 ghost use Rattle.house.specs.Promise.{can, room_of, start_of, OnePlace, LentByDriver, HomeIsQuiet, NewIsNoughts, CoreBuilt, AllBuilt};
 ghost use Rattle.house.specs.Refusals.{answer_of, IfRefused, IfNo, NeverNo};
-ghost use Rattle.house.specs.Serving.{Keeps, Begins};
+ghost use Rattle.house.specs.Serving.{Keeps, Begins, KeepsIn, BeginsIn};
 
 mod closing;
 mod devices;
@@ -20,14 +20,15 @@ mod pages;
 mod recalls;
 mod refusals;
 pub mod simulation;
+mod sweeps;
 pub mod theorems;
 
 use closing::close;
 use devices::{map_registers, open_device};
 use ending::end;
 use frames::clear;
-use ledger::setup::set_up;
-use loans::{Mapping, lend};
+use ledger::{Mapping, Room};
+use loans::lend;
 use pages::{free, get, give};
 use recalls::recall;
 use refusals::Refusal;
@@ -158,7 +159,7 @@ pub fn boot<M: Machine>(w: &mut M, room: &mut [u64]) -> Keeper
     requires lent { room_of (M.hw w.old).frames ≤ length room.old }
     ensures { Keeps room.new Quiet (M.hw w.new) (M.seen w.new) }
 {
-    set_up(room, w.frames());
+    let _ = Room::set_up(room, w.frames());
     clear(w, DEVICE_TABLE);
     w.start();
     Keeper { next: 1 }
@@ -166,29 +167,28 @@ pub fn boot<M: Machine>(w: &mut M, room: &mut [u64]) -> Keeper
 
 impl Keeper {
     // Serves one call of a program. A refused call asks the machine for nothing that counts, and leaves all as it was.
+    #[tactic(auto, using(crate::proofs::Refused::answer_given))]
     pub fn serve<M: Machine>(&mut self, w: &mut M, room: &mut [u64], who: u32, c: Call) -> Answer
         requires soon { 2048 ≤ (M.hw w.old).left }
         requires begins { Begins room.old who c (M.hw w.old) (M.seen w.old) }
         ensures keeps { Keeps room.new Quiet (M.hw w.new) (Told who c result ∷ M.seen w.new) }
         ensures refused { IfNo result ((room.new ≡ room.old) × (M.hw w.new ≡ M.hw w.old) × (M.seen w.new ≡ M.seen w.old) × (self.new.next ≡ self.old.next)) }
     {
-        match self.call(w, room, who, c) {
-            Ok(a) => a,
-            Err(e) => Answer::No(e.number()),
-        }
+        let mut room = Room::open(room, w.frames());
+        self.call(w, &mut room, who, c).unwrap_or_else(Answer::from)
     }
 
     // One row for each call.
     fn call<M: Machine>(
         &mut self,
         w: &mut M,
-        room: &mut [u64],
+        room: &mut Room,
         who: u32,
         c: Call,
     ) -> Result<Answer, Refusal>
         requires soon { 2048 ≤ (M.hw w.old).left }
-        requires begins { Begins room.old who c (M.hw w.old) (M.seen w.old) }
-        ensures told { Keeps room.new Quiet (M.hw w.new) (Told who c (answer_of result) ∷ M.seen w.new) }
+        requires begins { BeginsIn room.old who c (M.hw w.old) (M.seen w.old) }
+        ensures told { KeepsIn room.old room.new Quiet (M.hw w.new) (Told who c (answer_of result) ∷ M.seen w.new) }
         ensures refused { IfRefused result ((room.new ≡ room.old) × (M.hw w.new ≡ M.hw w.old) × (M.seen w.new ≡ M.seen w.old) × (self.new.next ≡ self.old.next)) }
         ensures accepted { NeverNo result }
     {

@@ -7,7 +7,9 @@ use crate::Machine;
 
 // Writes one word of a frame.
 pub fn write<M: Machine>(w: &mut M, frame: u32, word: u32, x: u64)
-    requires { (0 < (M.hw w.old).left) × ((frame < (M.hw w.old).frames) × (word < 512)) }
+    requires soon { 0 < (M.hw w.old).left }
+    requires frame { frame < (M.hw w.old).frames }
+    requires word { word < 512 }
     ensures steps { Steps (counted (with_mem (put frame word x (M.hw w.old).mem) (M.hw w.old))) (M.seen w.old) (M.hw w.new) (M.seen w.new) }
     ensures asked { Asked1 (M.hw w.old) (M.hw w.new) }
 {
@@ -16,7 +18,9 @@ pub fn write<M: Machine>(w: &mut M, frame: u32, word: u32, x: u64)
 
 // Unmaps a place of a program's address space.
 pub fn hide<M: Machine>(w: &mut M, who: u32, v: u32)
-    requires { (0 < (M.hw w.old).left) × ((who < 32) × (v < 1024)) }
+    requires soon { 0 < (M.hw w.old).left }
+    requires program { who < 32 }
+    requires place { v < 1024 }
     ensures steps { Steps (counted (shows who v Nothing (M.hw w.old))) (M.seen w.old) (M.hw w.new) (M.seen w.new) }
     ensures asked { Asked1 (M.hw w.old) (M.hw w.new) }
 {

@@ -1,5 +1,5 @@
 -- Closing a device: what its steps make of the room.
-use Rattle.std.proofs.Common.{◌≡◌, ℕ, suc, ◌+◌, ◌-◌, ◌<◌, ◌≤◌, Bool, true, false, cond, ◌&&◌, eqb, ltb, ◌⊎◌, List, length, sym, refl, ap, ◌∙◌, subst, inl, inr, ⊎_elim, arith}
+use Rattle.std.proofs.Common.{◌≡◌, ℕ, suc, ◌+◌, ◌<◌, ◌≤◌, Bool, true, false, cond, ◌&&◌, eqb, ltb, ◌⊎◌, List, length, sym, refl, ap, ◌∙◌, subst, inl, inr, ⊎_elim, arith}
 use mathlib.Core.Path.{fun_ext}
 use Rattle.std.proofs.lemmas.Bool.{eq-eqb, ne_eqb, lt-ltb, le-ltb, ltb-true, cases_eq, cases_lt, cond_both, and_parts}
 use Rattle.ledger.specs.declared.Loan.TheVariants.{Home, Lent, Leaving}
@@ -25,16 +25,16 @@ not_lent d House = refl
 not_lent d (TableOf e w) = refl
 not_lent d Idle = refl
 not_lent d (PageOf c v Home) = refl
-not_lent d (PageOf c v (Lent e p w)) = cond_both (eqb d e) (Leaving e p w) (Lent e p w) (λ l. is_lent d l ≡ false) (λ _. refl) (λ q. q)
-not_lent d (PageOf c v (Leaving e p w)) = refl
+not_lent d (PageOf c v (Lent m)) = cond_both (eqb d m.device) (Leaving m) (Lent m) (λ l. is_lent d l ≡ false) (λ _. refl) (λ q. q)
+not_lent d (PageOf c v (Leaving m)) = refl
 
 not_with : (d : ℕ) (u : Use) → is_with d (loan_in (map_loan (home_from d) u)) ≡ false
 not_with d House = refl
 not_with d (TableOf e w) = refl
 not_with d Idle = refl
 not_with d (PageOf c v Home) = refl
-not_with d (PageOf c v (Lent e p w)) = cond_both (eqb d e) Home (Lent e p w) (λ l. is_with d l ≡ false) (λ _. refl) (λ q. q)
-not_with d (PageOf c v (Leaving e p w)) = cond_both (eqb d e) Home (Leaving e p w) (λ l. is_with d l ≡ false) (λ _. refl) (λ q. q)
+not_with d (PageOf c v (Lent m)) = cond_both (eqb d m.device) Home (Lent m) (λ l. is_with d l ≡ false) (λ _. refl) (λ q. q)
+not_with d (PageOf c v (Leaving m)) = cond_both (eqb d m.device) Home (Leaving m) (λ l. is_with d l ≡ false) (λ _. refl) (λ q. q)
 
 -- a device's tables are lent to nobody
 abbrev Free : ℕ → View → Type 0
@@ -59,20 +59,19 @@ module _ (n : ℕ) (r : List ℕ) (d i : ℕ) (K : Consistent n r) where
   lower_frame : (g : ℕ) → (view_of n r).used g ≡ TableOf d (Lower i) → low_of r d i ≡ suc g
   lower_frame g e = subst (FrameOk (place_of r) (device_of r) (top_of r) (low_of r) g) e (K.coherent.frames g)
 
-  pub lower_within : (x : ℕ) → x ≡ low_of r d i → 0 < x → x - 1 < n
-  lower_within x e l = within n r (x - 1) (λ q. clash (sym q ∙ K.coherent.lows d i (x - 1) (sym e ∙ omega arith)))
+  pub lower_within : (t : ℕ) → low_of r d i ≡ suc t → t < n
+  lower_within t e = within n r t (λ q. clash (sym q ∙ K.coherent.lows d i t e))
     where
       clash : Idle ≡ TableOf d (Lower i) → ⊥
       clash z = let y : ◌≡◌ {A = ℕ} 0 1 = cc in omega arith
 
-  pub dropped_made : (m t : List ℕ) (x : ℕ) → x ≡ low_of r d i → 0 < x → Free d (view_of n r) → length t ≡ length r → view_of n m ≡ with_use (x - 1) Idle (view_of n r) → view_of n t ≡ with_low d i 0 (view_of n m) → Made n t (without_lower d i (view_of n r))
-  dropped_made m t x e l free len k j =
-      let noted : low_of r d i ≡ suc (x - 1) = omega arith in
-      let is = K.coherent.lows d i (x - 1) noted in
+  pub dropped_made : (m o : List ℕ) (t : ℕ) → low_of r d i ≡ suc t → Free d (view_of n r) → length o ≡ length r → view_of n m ≡ with_use t Idle (view_of n r) → view_of n o ≡ with_low d i 0 (view_of n m) → Made n o (without_lower d i (view_of n r))
+  dropped_made m o t noted free len k j =
+      let is = K.coherent.lows d i t noted in
       let both = j ∙ ap (with_low d i 0) k in (
-        both ∙ ap (with_low d i 0) (same_view (with_use (x - 1) Idle (view_of n r)) (with_uses (no_lower d i) (view_of n r)) (fun_ext (λ g. at1 (λ z. z ≡ no_lower d i ((view_of n r).used g)) g (x - 1) Idle ((view_of n r).used g)
+        both ∙ ap (with_low d i 0) (same_view (with_use t Idle (view_of n r)) (with_uses (no_lower d i) (view_of n r)) (fun_ext (λ g. at1 (λ z. z ≡ no_lower d i ((view_of n r).used g)) g t Idle ((view_of n r).used g)
             (λ q. sym (ap (λ (f : ℕ). no_lower d i ((view_of n r).used f)) q ∙ ap (no_lower d i) is ∙ same2 d i Idle (TableOf d (Lower i)))) (λ ne. other_lower d i ((view_of n r).used g) (λ q. let h = lower_frame g q in ne (omega arith))))) refl refl refl refl),
-        changed n r t _ K len both (dropped_coherent (view_of n r) K.coherent d i (x - 1) noted free),
+        changed n r o _ K len both (dropped_coherent (view_of n r) K.coherent d i t noted free),
       )
 
 -- slots below k

@@ -1,8 +1,9 @@
 -- Each change of a coherent view that the operations make leaves it coherent.
-use Rattle.std.proofs.Common.{◌≡◌, ℕ, suc, ◌/◌, Bool, true, false, cond, ◌&&◌, eqb, sym, refl, ap, ◌∙◌, subst, arith}
+use Rattle.std.proofs.Common.{◌≡◌, ℕ, suc, ◌/◌, true, false, cond, ◌&&◌, eqb, sym, refl, ap, ◌∙◌, subst, arith}
 use Rattle.std.proofs.lemmas.Bool.{eqb-true, eqb-false, eq-eqb, and_parts, false≢true}
 use Rattle.ledger.specs.declared.Loan.{Loan}
 use Rattle.ledger.specs.declared.Loan.TheVariants.{Home, Lent, Leaving}
+use Rattle.ledger.specs.declared.mapping.Mapping.{Mapping}
 use Rattle.ledger.specs.declared.Which.{Which}
 use Rattle.ledger.specs.declared.Which.TheVariants.{Upper, Lower}
 use Rattle.ledger.specs.declared.Use.{Use}
@@ -179,7 +180,7 @@ module _ (s : View) (K : Coherent s) (d f : ℕ) where
         frames = λ g. at1 (FrameOk s.place dev' top' s.low g) g f table (s.used g) (λ e. (same1 d f (s.top d) ∙ sym e, ap is_shut (same1 d (Opened c) (s.device d))))
             (λ _. frame_moves s.device dev' s.low s.low s.place s.place s.top top' g (s.used g) (λ a b e. e)
             (λ e _ a b. let ne : e ≡ d → ⊥ = λ q. false≢true (sym b ∙ ap (λ (k : ℕ). is_shut (s.device k)) q ∙ ap is_shut shut) in (other1 e d f (s.top e) ne ∙ a, ap is_shut (other1 e d (Opened c) (s.device e) ne) ∙ b)) (λ e i _ a. a)
-            (λ a b l _. loan_moves s.device dev' s.low s.low a l (λ e p w _ h. stays e a h) (λ e p w _ h. owned e a h) (λ e p _ h. h)) (K.frames g));
+            (λ a b l _. loan_moves s.device dev' s.low s.low a l (λ m _ h. stays m.device a h) (λ m _ h. owned m.device a h) (λ e p _ h. h)) (K.frames g));
         places = λ a b. place_moves s.used used' s.device dev' a b (s.place a b) (λ g _ h. use_page s K f table a b g h (λ k. absurd (false≢true (ap (is_page a b) (sym idle) ∙ k)))) (λ e _ h. stays e a h) (K.places a b);
         devices = λ e. at1 (DeviceOk used' top' s.low e) e d (Opened c) (s.device e) (λ q. rw (q, same1 d f (s.top d), same1 f table (s.used f)))
             (λ ne. device_moves s.used used' s.top top' s.low s.low e (s.device e) (λ _ h. rw (other1 e d f (s.top e) ne) (use_table s K f table (s.top e) (TableOf e Upper) h (λ k. idle_table (sym idle ∙ k)))) (λ _ h. h) (K.devices e));
@@ -216,8 +217,8 @@ upper s K d = go (s.device d) (K.devices d)
 
 pub at_with : (d e p : ℕ) (l : Loan) → e ≡ d → is_at e p l ≡ true → is_with d l ≡ true
 at_with d e p Home q h = absurd (false≢true h)
-at_with d e p (Lent a b w) q h = let t = (and_parts (eqb e a) (eqb p b) h).0 in rw q at t
-at_with d e p (Leaving a b w) q h = let t = (and_parts (eqb e a) (eqb p b) h).0 in rw q at t
+at_with d e p (Lent m) q h = let t = (and_parts (eqb e m.device) (eqb p m.page) h).0 in rw q at t
+at_with d e p (Leaving m) q h = let t = (and_parts (eqb e m.device) (eqb p m.page) h).0 in rw q at t
 
 pub one_owner : (a c : ℕ) (x : Device) → owner_is a x ≡ true → owner_is c x ≡ true → a ≡ c
 one_owner a c Shut p q = absurd (false≢true p)
@@ -233,7 +234,7 @@ module _ (s : View) (K : Coherent s) (d i f : ℕ) where
         house = use_house s K f table (λ e. idle_house (sym idle ∙ e));
         frames = λ g. at1 (FrameOk s.place s.device s.top low' g) g f table (s.used g) (λ e. same2 d i (suc f) (s.low d i) ∙ ap suc (sym e))
             (λ _. frame_moves s.device s.device s.low low' s.place s.place s.top s.top g (s.used g) (λ a b e. e) (λ e _ a b. (a, b)) (λ e j _ h. noted e j g h)
-            (λ a b l _. loan_moves s.device s.device s.low low' a l (λ e p w _ h. h) (λ e p w _ h. h) (λ e p _ h. there e (p / 512) h)) (K.frames g));
+            (λ a b l _. loan_moves s.device s.device s.low low' a l (λ _ _ h. h) (λ _ _ h. h) (λ e p _ h. there e (p / 512) h)) (K.frames g));
         places = λ a b. place_moves s.used used' s.device s.device a b (s.place a b) (λ g _ h. use_page s K f table a b g h (λ k. absurd (false≢true (ap (is_page a b) (sym idle) ∙ k)))) (λ e _ h. h) (K.places a b);
         devices = λ e. device_moves s.used used' s.top s.top s.low low' e (s.device e) (λ _ h. use_table s K f table (s.top e) (TableOf e Upper) h (λ k. idle_table (sym idle ∙ k)))
             (λ shut h j. at2 (λ z. z ≡ 0) e d j i (suc f) (s.low e j) (λ p q. absurd (false≢true (sym live ∙ ap (λ (k : ℕ). is_shut (s.device k)) (sym p) ∙ ap is_shut shut))) (λ _. h j)) (K.devices e);
@@ -264,7 +265,7 @@ module _ (s : View) (K : Coherent s) (d i f : ℕ) where
         house = use_house s K f Idle (λ e. table_house (sym is ∙ e));
         frames = λ g. at1 (FrameOk s.place s.device s.top low' g) g f Idle (s.used g) (λ e. tt)
             (λ ne. frame_moves s.device s.device s.low low' s.place s.place s.top s.top g (s.used g) (λ a b e. e) (λ e _ a b. (a, b)) (λ e j _ h. still e j g ne h)
-            (λ a b l k. loan_moves s.device s.device s.low low' a l (λ e p w _ h. h) (λ e p w _ h. h) (λ e p at h. there e p l (p / 512) (subst (λ u. is_with d (loan_in u) ≡ false) k (free g)) at h)) (K.frames g));
+            (λ a b l k. loan_moves s.device s.device s.low low' a l (λ _ _ h. h) (λ _ _ h. h) (λ e p at h. there e p l (p / 512) (subst (λ u. is_with d (loan_in u) ≡ false) k (free g)) at h)) (K.frames g));
         places = λ a b. place_moves s.used used' s.device s.device a b (s.place a b) (λ g _ h. use_page s K f Idle a b g h (λ k. absurd (false≢true (ap (is_page a b) (sym is) ∙ k)))) (λ e _ h. h) (K.places a b);
         devices = λ e. device_moves s.used used' s.top s.top s.low low' e (s.device e) (λ _ h. use_table s K f Idle (s.top e) (TableOf e Upper) h (λ k. lower_upper (sym is ∙ k)))
             (λ shut h j. at2 (λ z. z ≡ 0) e d j i 0 (s.low e j) (λ p q. refl) (λ _. h j)) (K.devices e);
@@ -302,7 +303,7 @@ module _ (s : View) (K : Coherent s) (d : ℕ) where
         house = K.house;
         frames = λ g. frame_moves s.device dev' s.low s.low s.place s.place s.top s.top g (s.used g) (λ a b e. e)
             (λ e _ a b. (a, at1 (λ z. is_shut z ≡ false) e d (Closing c) (s.device e) (λ _. refl) (λ _. b))) (λ e j _ h. h)
-            (λ a b l k. loan_moves s.device dev' s.low s.low a l (λ e p w q h. lent e p w a (subst (λ u. is_lent d (loan_in u) ≡ false) (k ∙ ap (PageOf a b) q) (free g)) h) (λ e p w _ h. owned e a h) (λ e p _ h. h)) (K.frames g);
+            (λ a b l k. loan_moves s.device dev' s.low s.low a l (λ m q h. lent m a (subst (λ u. is_lent d (loan_in u) ≡ false) (k ∙ ap (PageOf a b) q) (free g)) h) (λ m _ h. owned m.device a h) (λ e p _ h. h)) (K.frames g);
         places = λ a b. place_moves s.used s.used s.device dev' a b (s.place a b) (λ g _ h. h)
             (λ e q h. at1 (λ z. z ≡ Opened a) e d (Closing c) (s.device e) (λ r. absurd (hidden a b (q ∙ ap Registers r))) (λ _. h)) (K.places a b);
         devices = λ e. at1 (DeviceOk s.used s.top s.low e) e d (Closing c) (s.device e) (λ q. rw q (upper s K d (not_shut c (s.device d) owner))) (λ _. K.devices e);
@@ -313,8 +314,8 @@ module _ (s : View) (K : Coherent s) (d : ℕ) where
       dev' : ℕ → Device
       dev' e = cond (eqb e d) (Closing c) (s.device e)
 
-      lent : (e p : ℕ) (w : Bool) (a : ℕ) → is_lent d (Lent e p w) ≡ false → s.device e ≡ Opened a → dev' e ≡ Opened a
-      lent e p w a q h = at1 (λ z. z ≡ Opened a) e d (Closing c) (s.device e) (λ r. absurd (eqb-false d e q (sym r))) (λ _. h)
+      lent : (m : Mapping) (a : ℕ) → is_lent d (Lent m) ≡ false → s.device m.device ≡ Opened a → dev' m.device ≡ Opened a
+      lent m a q h = at1 (λ z. z ≡ Opened a) m.device d (Closing c) (s.device m.device) (λ r. absurd (eqb-false d m.device q (sym r))) (λ _. h)
 
       owned : (e a : ℕ) → owner_is a (s.device e) ≡ true → owner_is a (dev' e) ≡ true
       owned e a h = at1 (λ z. owner_is a z ≡ true) e d (Closing c) (s.device e) (λ q. eq-eqb a c (one_owner a c (s.device d) (ap (λ (k : ℕ). owner_is a (s.device k)) (sym q) ∙ h) owner)) (λ _. h)
@@ -328,8 +329,8 @@ module _ (s : View) (K : Coherent s) (d : ℕ) where
         frames = λ g. at1 (FrameOk s.place dev' top' s.low g) g f Idle (s.used g) (λ e. tt)
             (λ ne. frame_moves s.device dev' s.low s.low s.place s.place s.top top' g (s.used g) (λ a b e. e)
             (λ e _ a b. let no : e ≡ d → ⊥ = λ q. ne (sym a ∙ ap s.top q) in (other1 e d 0 (s.top e) no ∙ a, ap is_shut (other1 e d Shut (s.device e) no) ∙ b)) (λ e j _ h. h)
-            (λ a b l k. loan_moves s.device dev' s.low s.low a l (λ e p w q h. lent e a (λ r. false≢true (sym (subst (λ u. is_with d (loan_in u) ≡ false) (k ∙ ap (PageOf a b) q) (free g)) ∙ eq-eqb d e (sym r))) h)
-            (λ e p w q h. owned e a (λ r. false≢true (sym (subst (λ u. is_with d (loan_in u) ≡ false) (k ∙ ap (PageOf a b) q) (free g)) ∙ eq-eqb d e (sym r))) h) (λ e p _ h. h)) (K.frames g));
+            (λ a b l k. loan_moves s.device dev' s.low s.low a l (λ m q h. lent m.device a (λ r. false≢true (sym (subst (λ u. is_with d (loan_in u) ≡ false) (k ∙ ap (PageOf a b) q) (free g)) ∙ eq-eqb d m.device (sym r))) h)
+            (λ m q h. owned m.device a (λ r. false≢true (sym (subst (λ u. is_with d (loan_in u) ≡ false) (k ∙ ap (PageOf a b) q) (free g)) ∙ eq-eqb d m.device (sym r))) h) (λ e p _ h. h)) (K.frames g));
         places = λ a b. place_moves s.used used' s.device dev' a b (s.place a b) (λ g _ h. use_page s K f Idle a b g h (λ k. absurd (false≢true (ap (is_page a b) (sym is) ∙ k))))
             (λ e q h. lent e a (λ r. hidden a b (q ∙ ap Registers r)) h) (K.places a b);
         devices = λ e. at1 (DeviceOk used' top' s.low e) e d Shut (s.device e) (λ q j. ap (λ (k : ℕ). s.low k j) q ∙ none j)

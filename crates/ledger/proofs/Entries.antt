@@ -1,13 +1,15 @@
 -- A write of one entry: what the room says after it, of that entry and of all others.
-use Rattle.std.proofs.Common.{◌≡◌, ℕ, ◌+◌, ◌*◌, ◌<◌, ◌≤◌, Bool, true, false, cond, ◌&&◌, eqb, ltb, ◌≢◌, ◌⊎◌, List, length, get_or, set, refl, ap, ◌∙◌, inl, inr, ⊎_elim, arith}
+use Rattle.std.proofs.Common.{◌≡◌, ℕ, ◌+◌, ◌*◌, ◌<◌, ◌≤◌, Bool, true, false, cond, ◌&&◌, eqb, ltb, ◌≢◌, ◌⊎◌, List, length, get_or, set, refl, ap, ◌∙◌, inl, inr, ⊎_elim, arith, rules}
 use mathlib.Core.Path.{fun_ext}
 use Rattle.std.proofs.lemmas.List.{get_or-set_same, get_or-set_other, length-set}
 use Rattle.std.proofs.lemmas.Bool.{ltb-true, lt-ltb, eq-eqb, ne_eqb, cases_eq, and_parts}
 use Rattle.ledger.specs.declared.Use.{Use}
 use Rattle.ledger.specs.declared.Use.TheVariants.{Idle}
 use Rattle.ledger.specs.declared.Place.{Place}
+use Rattle.ledger.specs.declared.Place.TheVariants.{Nothing, Page, Registers}
 use Rattle.ledger.specs.declared.Device.{Device}
-use Rattle.ledger.specs.Words.{use_from, place_from, device_from, number_from}
+use Rattle.ledger.specs.declared.Device.TheVariants.{Shut, Opened, Closing}
+use Rattle.ledger.specs.Words.{use_from, place_from, place_word, PlaceFits, device_from, device_word, DeviceFits, number_from}
 use Rattle.ledger.specs.Room.{use_of, place_of, device_of, top_of, low_of}
 use Rattle.ledger.specs.View.{View, view_of, with_use, with_place, with_device, with_top, with_low}
 
@@ -204,3 +206,14 @@ module _ (r : List ℕ) (at : ℕ) where
 
     pub wrote_top_at : (d y : ℕ) → at ≡ 49152 + 2 * d → d < 32 → number_from x ≡ y → view_of n (set r (at + 1) x) ≡ with_top d y (view_of n r)
     wrote_top_at d y e a w = ap (λ (k : ℕ). view_of n (set r (k + 1) x)) e ∙ wrote_top r n x long d y a w
+
+-- what is packed into a word is read from it again
+pub place_packed : (s : Place) → PlaceFits s → place_from (place_word s) ≡ s
+place_packed Nothing h = refl
+place_packed (Page f) h = search rules
+place_packed (Registers d) h = search rules
+
+pub device_packed : (s : Device) → DeviceFits s → device_from (device_word s) ≡ s
+device_packed Shut h = refl
+device_packed (Opened c) h = search rules
+device_packed (Closing c) h = search rules

@@ -35,7 +35,7 @@ device_within r d h = ⊎_elim (λ e. ltb-true d 32 e) (λ e. absurd (h (rw e)))
 
 -- the numbers that are read are in range
 loan_fits : (h : ℕ) → LoanFits (loan_from h)
-loan_fits h = cond_both (eqb h 0) Home _ LoanFits (λ _. tt) (λ _. cond_both _ (Leaving _ _ _) (Lent _ _ _) LoanFits (λ _. (omega arith, omega arith)) (λ _. (omega arith, omega arith)))
+loan_fits h = cond_both (eqb h 0) Home _ LoanFits (λ _. tt) (λ _. cond_both _ (Leaving _) (Lent _) LoanFits (λ _. (omega arith, omega arith)) (λ _. (omega arith, omega arith)))
 
 which_fits : (h : ℕ) → WhichFits (which_from h)
 which_fits h = cond_both (eqb h 0) Upper (Lower ((h - 1) % 512)) WhichFits (λ _. tt) (λ _. omega arith)

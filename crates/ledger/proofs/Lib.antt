@@ -9,3 +9,4 @@ pub mod Closed
 pub mod Searched
 pub mod Emptied
 pub mod Loaned
+pub mod Becoming

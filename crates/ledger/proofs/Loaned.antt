@@ -3,6 +3,7 @@ use Rattle.std.proofs.Common.{◌≡◌, ℕ, ◌<◌, Bool, true, false, eqb, L
 use Rattle.std.proofs.lemmas.Bool.{eq-eqb, eqb-true, and_parts, false≢true}
 use Rattle.ledger.specs.declared.Loan.{Loan}
 use Rattle.ledger.specs.declared.Loan.TheVariants.{Home, Lent, Leaving}
+use Rattle.ledger.specs.declared.mapping.Mapping.{Mapping}
 use Rattle.ledger.specs.declared.Use.{Use}
 use Rattle.ledger.specs.declared.Use.TheVariants.{PageOf}
 use Rattle.ledger.specs.declared.Place.TheVariants.{Page}
@@ -19,30 +20,30 @@ pub opened_within : (r : List ℕ) (c d : ℕ) → device_of r d ≡ Opened c �
 opened_within r c d e = device_within r d (λ z. let q : Shut ≡ Opened c = sym z ∙ e in let y : ◌≡◌ {A = ℕ} 0 1 = cc in omega arith)
 
 -- where no frame is, none is another
-pub lent_alone : (n : ℕ) (r : List ℕ) (f d p : ℕ) (w : Bool) → ((g : ℕ) → g < n → is_at d p (loan_in (use_of r g)) ≡ true → ⊥) →
-    (g e q : ℕ) → g < n → is_at e q (Lent d p w) ≡ true → is_at e q (loan_in (use_of r g)) ≡ true → g ≡ f
-lent_alone n r f d p w free g e q l a b =
-    let h = and_parts (eqb e d) (eqb q p) a in
-    let is = eqb-true e d h.0 in
-    let at = eqb-true q p h.1 in absurd (free g l (ap (λ (x : ℕ). is_at x p (loan_in (use_of r g))) (sym is) ∙ ap (λ (x : ℕ). is_at e x (loan_in (use_of r g))) (sym at) ∙ b))
+pub lent_alone : (n : ℕ) (r : List ℕ) (f : ℕ) (m : Mapping) → ((g : ℕ) → g < n → is_at m.device m.page (loan_in (use_of r g)) ≡ true → ⊥) →
+    (g e q : ℕ) → g < n → is_at e q (Lent m) ≡ true → is_at e q (loan_in (use_of r g)) ≡ true → g ≡ f
+lent_alone n r f m free g e q l a b =
+    let h = and_parts (eqb e m.device) (eqb q m.page) a in
+    let is = eqb-true e m.device h.0 in
+    let at = eqb-true q m.page h.1 in absurd (free g l (ap (λ (x : ℕ). is_at x m.page (loan_in (use_of r g))) (sym is) ∙ ap (λ (x : ℕ). is_at e x (loan_in (use_of r g))) (sym at) ∙ b))
 
 recalled_fits : (h : Bool) (l : Loan) → LoanFits l → LoanFits (recalled_loan h l)
 recalled_fits true l k = tt
 recalled_fits false Home k = tt
-recalled_fits false (Lent d p w) k = k
-recalled_fits false (Leaving d p w) k = k
+recalled_fits false (Lent m) k = k
+recalled_fits false (Leaving m) k = k
 
 recalled_ok : (dev : ℕ → Device) (low : ℕ → ℕ → ℕ) (c : ℕ) (h : Bool) (l : Loan) → LoanOk dev low c l → LoanOk dev low c (recalled_loan h l)
 recalled_ok dev low c true l k = tt
 recalled_ok dev low c false Home k = tt
-recalled_ok dev low c false (Lent d p w) k = (ap (owner_is c) k.0 ∙ eq-eqb c c refl, k.1, k.2)
-recalled_ok dev low c false (Leaving d p w) k = k
+recalled_ok dev low c false (Lent m) k = (ap (owner_is c) k.0 ∙ eq-eqb c c refl, k.1, k.2)
+recalled_ok dev low c false (Leaving m) k = k
 
 recalled_at : (h : Bool) (l : Loan) (d p : ℕ) → is_at d p (recalled_loan h l) ≡ true → is_at d p l ≡ true
 recalled_at true l d p e = absurd (false≢true e)
 recalled_at false Home d p e = e
-recalled_at false (Lent a b w) d p e = e
-recalled_at false (Leaving a b w) d p e = e
+recalled_at false (Lent m) d p e = e
+recalled_at false (Leaving m) d p e = e
 
 module _ (n : ℕ) (r : List ℕ) (K : Consistent n r) (c v f : ℕ) (h : Bool) (shown : place_of r c v ≡ Page f) (x : Loan) (ax : x ≡ recalled_loan h (loan_in (use_of r f))) where
   is : use_of r f ≡ PageOf c v (loan_in (use_of r f))

@@ -1,8 +1,9 @@
 -- What holds of one entry still holds when the tables change, if what it refers to stays.
-use Rattle.std.proofs.Common.{◌≡◌, ℕ, suc, ◌/◌, Bool, true, false, cond, ◌&&◌, eqb, ◌⊎◌, sym, refl, ap, ◌∙◌, inl, inr}
+use Rattle.std.proofs.Common.{◌≡◌, ℕ, suc, ◌/◌, true, false, cond, ◌&&◌, eqb, ◌⊎◌, sym, refl, ap, ◌∙◌, inl, inr}
 use Rattle.std.proofs.lemmas.Bool.{eqb-true, eqb-false, eq-eqb, ne_eqb, cond_both, and_parts, false≢true}
 use Rattle.ledger.specs.declared.Loan.{Loan}
 use Rattle.ledger.specs.declared.Loan.TheVariants.{Home, Lent, Leaving}
+use Rattle.ledger.specs.declared.mapping.Mapping.{Mapping}
 use Rattle.ledger.specs.declared.Which.TheVariants.{Upper, Lower}
 use Rattle.ledger.specs.declared.Use.{Use}
 use Rattle.ledger.specs.declared.Use.TheVariants.{House, TableOf, Idle, PageOf}
@@ -56,11 +57,11 @@ not_shut c (Closing w) e = refl
 
 module _ (dev dev' : ℕ → Device) (low low' : ℕ → ℕ → ℕ) where
   -- the loan of a page, whose device and slot stay
-  pub loan_moves : (c : ℕ) (l : Loan) → ((d p : ℕ) (w : Bool) → l ≡ Lent d p w → dev d ≡ Opened c → dev' d ≡ Opened c) → ((d p : ℕ) (w : Bool) → l ≡ Leaving d p w → owner_is c (dev d) ≡ true → owner_is c (dev' d) ≡ true) →
+  pub loan_moves : (c : ℕ) (l : Loan) → ((m : Mapping) → l ≡ Lent m → dev m.device ≡ Opened c → dev' m.device ≡ Opened c) → ((m : Mapping) → l ≡ Leaving m → owner_is c (dev m.device) ≡ true → owner_is c (dev' m.device) ≡ true) →
       ((d p : ℕ) → is_at d p l ≡ true → (low d (p / 512) ≡ 0 → ⊥) → low' d (p / 512) ≡ 0 → ⊥) → LoanOk dev low c l → LoanOk dev' low' c l
   loan_moves c Home a b k h = tt
-  loan_moves c (Lent d p w) a b k h = (a d p w refl h.0, h.1, k d p (rw (eq-eqb d d refl, eq-eqb p p refl)) h.2)
-  loan_moves c (Leaving d p w) a b k h = (b d p w refl h.0, h.1, k d p (rw (eq-eqb d d refl, eq-eqb p p refl)) h.2)
+  loan_moves c (Lent m) a b k h = (a m refl h.0, h.1, k m.device m.page (rw (eq-eqb m.device m.device refl, eq-eqb m.page m.page refl)) h.2)
+  loan_moves c (Leaving m) a b k h = (b m refl h.0, h.1, k m.device m.page (rw (eq-eqb m.device m.device refl, eq-eqb m.page m.page refl)) h.2)
 
   module _ (place place' : ℕ → ℕ → Place) (top top' : ℕ → ℕ) where
     pub frame_moves : (f : ℕ) (u : Use) → ((c v : ℕ) → place c v ≡ Page f → place' c v ≡ Page f) → ((d : ℕ) → u ≡ TableOf d Upper → top d ≡ f → is_shut (dev d) ≡ false → (top' d ≡ f) × (is_shut (dev' d) ≡ false)) →

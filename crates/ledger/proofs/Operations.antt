@@ -111,3 +111,12 @@ module _ (n : ℕ) (r t : List ℕ) (K : Consistent n r) (len : length t ≡ len
   vacated_registers d e k =
       let q = k ∙ ap (with_place c v Nothing) (same_view (view_of n r) (with_uses (no_page c v) (view_of n r)) (fun_ext (λ g. table_at_no_page c v ((view_of n r).used g) (not_there n r K c v (Registers d) e g (λ q. let z : ◌≡◌ {A = ℕ} 0 1 = cc in omega arith)))) refl refl refl refl) in
       (q, changed n r t _ K len k (hidden_coherent (view_of n r) K.coherent c v 0 (λ g h. let j : Registers d ≡ Page g = sym e ∙ h in let z : ◌≡◌ {A = ℕ} 0 1 = cc in omega arith)))
+
+-- after a page was freed, its frame can become a page at another place
+pub given_ready : (n : ℕ) (r m : List ℕ) → Consistent n r → (c v a b f : ℕ) → place_of r c v ≡ Page f → place_of r a b ≡ Nothing → view_of n m ≡ freed_page c v f (view_of n r) → (place_of m a b ≡ Nothing) × (f < n) × (use_of m f ≡ Idle)
+given_ready n r m K c v a b f shown free e =
+    let l = page_frame n r K c v f shown in (
+      ap (λ (s : View). s.place a b) e ∙ cond_both (eqb a c && eqb b v) Nothing (place_of r a b) (λ z. z ≡ Nothing) (λ _. refl) (λ _. free),
+      l,
+      sym (used_at n m f l) ∙ ap (λ (s : View). s.used f) e ∙ same1 f Idle ((view_of n r).used f),
+    )

@@ -29,43 +29,43 @@ below c k φ (PageOf a b l) = cond (eqb a c && ltb b k) (PageOf a b (φ l)) (Pag
 -- what a sweep leaves of a loan
 pub swept_fits : (h : Bool) (d : ℕ) (l : Loan) → LoanFits l → LoanFits (swept_loan h d l)
 swept_fits true d Home f = f
-swept_fits true d (Lent e p w) f = cond_both (eqb d e) Home (Lent e p w) LoanFits (λ _. tt) (λ _. f)
-swept_fits true d (Leaving e p w) f = cond_both (eqb d e) Home (Leaving e p w) LoanFits (λ _. tt) (λ _. f)
+swept_fits true d (Lent m) f = cond_both (eqb d m.device) Home (Lent m) LoanFits (λ _. tt) (λ _. f)
+swept_fits true d (Leaving m) f = cond_both (eqb d m.device) Home (Leaving m) LoanFits (λ _. tt) (λ _. f)
 swept_fits false d Home f = f
-swept_fits false d (Lent e p w) f = cond_both (eqb d e) (Leaving e p w) (Lent e p w) LoanFits (λ _. f) (λ _. f)
-swept_fits false d (Leaving e p w) f = f
+swept_fits false d (Lent m) f = cond_both (eqb d m.device) (Leaving m) (Lent m) LoanFits (λ _. f) (λ _. f)
+swept_fits false d (Leaving m) f = f
 
 pub swept_ok : (dev : ℕ → Device) (low : ℕ → ℕ → ℕ) (c : ℕ) (h : Bool) (d : ℕ) (l : Loan) → LoanOk dev low c l → LoanOk dev low c (swept_loan h d l)
 swept_ok dev low c true d Home k = k
-swept_ok dev low c true d (Lent e p w) k = cond_both (eqb d e) Home (Lent e p w) (LoanOk dev low c) (λ _. tt) (λ _. k)
-swept_ok dev low c true d (Leaving e p w) k = cond_both (eqb d e) Home (Leaving e p w) (LoanOk dev low c) (λ _. tt) (λ _. k)
+swept_ok dev low c true d (Lent m) k = cond_both (eqb d m.device) Home (Lent m) (LoanOk dev low c) (λ _. tt) (λ _. k)
+swept_ok dev low c true d (Leaving m) k = cond_both (eqb d m.device) Home (Leaving m) (LoanOk dev low c) (λ _. tt) (λ _. k)
 swept_ok dev low c false d Home k = k
-swept_ok dev low c false d (Lent e p w) k =
-    cond_both (eqb d e) (Leaving e p w) (Lent e p w) (LoanOk dev low c) (λ _. (ap (owner_is c) k.0 ∙ eq-eqb c c refl, k.1, k.2)) (λ _. k)
-swept_ok dev low c false d (Leaving e p w) k = k
+swept_ok dev low c false d (Lent m) k =
+    cond_both (eqb d m.device) (Leaving m) (Lent m) (LoanOk dev low c) (λ _. (ap (owner_is c) k.0 ∙ eq-eqb c c refl, k.1, k.2)) (λ _. k)
+swept_ok dev low c false d (Leaving m) k = k
 
 pub swept_at : (h : Bool) (d : ℕ) (l : Loan) (e p : ℕ) → is_at e p (swept_loan h d l) ≡ true → is_at e p l ≡ true
 swept_at true d Home e p k = k
-swept_at true d (Lent a q w) e p k = cond_both (eqb d a) Home (Lent a q w) (λ z. is_at e p z ≡ true → is_at e p (Lent a q w) ≡ true) (λ _ k. absurd (false≢true k)) (λ _ k. k) k
-swept_at true d (Leaving a q w) e p k = cond_both (eqb d a) Home (Leaving a q w) (λ z. is_at e p z ≡ true → is_at e p (Leaving a q w) ≡ true) (λ _ k. absurd (false≢true k)) (λ _ k. k) k
+swept_at true d (Lent m) e p k = cond_both (eqb d m.device) Home (Lent m) (λ z. is_at e p z ≡ true → is_at e p (Lent m) ≡ true) (λ _ k. absurd (false≢true k)) (λ _ k. k) k
+swept_at true d (Leaving m) e p k = cond_both (eqb d m.device) Home (Leaving m) (λ z. is_at e p z ≡ true → is_at e p (Leaving m) ≡ true) (λ _ k. absurd (false≢true k)) (λ _ k. k) k
 swept_at false d Home e p k = k
-swept_at false d (Lent a q w) e p k = cond_both (eqb d a) (Leaving a q w) (Lent a q w) (λ z. is_at e p z ≡ true → is_at e p (Lent a q w) ≡ true) (λ _ k. k) (λ _ k. k) k
-swept_at false d (Leaving a q w) e p k = k
+swept_at false d (Lent m) e p k = cond_both (eqb d m.device) (Leaving m) (Lent m) (λ z. is_at e p z ≡ true → is_at e p (Lent m) ≡ true) (λ _ k. k) (λ _ k. k) k
+swept_at false d (Leaving m) e p k = k
 
 -- what is not with d stays
 pub swept_other : (h : Bool) (d : ℕ) (l : Loan) → is_with d l ≡ false → l ≡ swept_loan h d l
 swept_other true d Home e = refl
-swept_other true d (Lent a q w) e = rw e
-swept_other true d (Leaving a q w) e = rw e
+swept_other true d (Lent m) e = rw e
+swept_other true d (Leaving m) e = rw e
 swept_other false d Home e = refl
-swept_other false d (Lent a q w) e = rw e
-swept_other false d (Leaving a q w) e = refl
+swept_other false d (Lent m) e = rw e
+swept_other false d (Leaving m) e = refl
 
 -- what is with d is of the program that has d
 pub with_owner : (dev : ℕ → Device) (low : ℕ → ℕ → ℕ) (c d : ℕ) (l : Loan) → LoanOk dev low c l → is_with d l ≡ true → owner_is c (dev d) ≡ true
 with_owner dev low c d Home k e = absurd (false≢true e)
-with_owner dev low c d (Lent a q w) k e = rw (eqb-true d a e) (ap (owner_is c) k.0 ∙ eq-eqb c c refl)
-with_owner dev low c d (Leaving a q w) k e = rw (eqb-true d a e) k.0
+with_owner dev low c d (Lent m) k e = rw (eqb-true d m.device e) (ap (owner_is c) k.0 ∙ eq-eqb c c refl)
+with_owner dev low c d (Leaving m) k e = rw (eqb-true d m.device e) k.0
 
 on_other : (c v : ℕ) (φ : Loan → Loan) (u : Use) → (is_page c v u ≡ true → ⊥) → u ≡ on_page c v φ u
 on_other c v φ House h = refl

@@ -16,8 +16,8 @@ use Rattle.ledger.specs.Uses.{is_page, loan_in, is_at, is_shut, owner_is}
 -- page whose slot has a lower table.
 abbrev pub LoanOk : (ℕ → Device) → (ℕ → ℕ → ℕ) → ℕ → Loan → Type 0
 LoanOk dev low c Home = Unit {0}
-LoanOk dev low c (Lent d p w) = (dev d ≡ Opened c) × (p < 262144) × (low d (p / 512) ≢ 0)
-LoanOk dev low c (Leaving d p w) = (owner_is c (dev d) ≡ true) × (p < 262144) × (low d (p / 512) ≢ 0)
+LoanOk dev low c (Lent m) = (dev m.device ≡ Opened c) × (m.page < 262144) × (low m.device (m.page / 512) ≢ 0)
+LoanOk dev low c (Leaving m) = (owner_is c (dev m.device) ≡ true) × (m.page < 262144) × (low m.device (m.page / 512) ≢ 0)
 
 -- Only frame 0 is the house's. A table's frame stands where its device has noted it, and a page at its place.
 abbrev pub FrameOk : (ℕ → ℕ → Place) → (ℕ → Device) → (ℕ → ℕ) → (ℕ → ℕ → ℕ) → ℕ → Use → Type 0

@@ -33,19 +33,19 @@ loan_in (PageOf c v l) = l
 -- lent to device d at page p, or leaving it there
 abbrev pub is_at : ℕ → ℕ → Loan → Bool
 is_at d p Home = false
-is_at d p (Lent e q w) = d == e && p == q
-is_at d p (Leaving e q w) = d == e && p == q
+is_at d p (Lent m) = d == m.device && p == m.page
+is_at d p (Leaving m) = d == m.device && p == m.page
 
 -- lent to device d or leaving it, at any page
 abbrev pub is_with : ℕ → Loan → Bool
 is_with d Home = false
-is_with d (Lent e q w) = d == e
-is_with d (Leaving e q w) = d == e
+is_with d (Lent m) = d == m.device
+is_with d (Leaving m) = d == m.device
 
 abbrev pub is_lent : ℕ → Loan → Bool
 is_lent d Home = false
-is_lent d (Lent e q w) = d == e
-is_lent d (Leaving e q w) = false
+is_lent d (Lent m) = d == m.device
+is_lent d (Leaving m) = false
 
 abbrev pub is_shut : Device → Bool
 is_shut Shut = true
@@ -65,21 +65,21 @@ held_by_other c x = not (is_shut x) && not (owner_is c x)
 -- what is lent to d is leaving it
 abbrev pub leaving_from : ℕ → Loan → Loan
 leaving_from d Home = Home
-leaving_from d (Lent e p w) = cond (d == e) (Leaving e p w) (Lent e p w)
-leaving_from d (Leaving e p w) = Leaving e p w
+leaving_from d (Lent m) = cond (d == m.device) (Leaving m) (Lent m)
+leaving_from d (Leaving m) = Leaving m
 
 -- what is lent to d or leaving it is home
 abbrev pub home_from : ℕ → Loan → Loan
 home_from d Home = Home
-home_from d (Lent e p w) = cond (d == e) Home (Lent e p w)
-home_from d (Leaving e p w) = cond (d == e) Home (Leaving e p w)
+home_from d (Lent m) = cond (d == m.device) Home (Lent m)
+home_from d (Leaving m) = cond (d == m.device) Home (Leaving m)
 
 -- what a recall makes of a loan: it is home once the device was forgotten, and else leaving
 abbrev pub recalled_loan : (home : Bool) → Loan → Loan
 recalled_loan true l = Home
 recalled_loan false Home = Home
-recalled_loan false (Lent d p w) = Leaving d p w
-recalled_loan false (Leaving d p w) = Leaving d p w
+recalled_loan false (Lent m) = Leaving m
+recalled_loan false (Leaving m) = Leaving m
 
 -- what a device's closing makes of a loan: it is home once the device was forgotten, and else leaving
 abbrev pub swept_loan : (home : Bool) → ℕ → Loan → Loan

@@ -1,8 +1,9 @@
 -- What the words of one entry mean: a frame's record (two words), a place, a device, a table's frame.
 -- Every definition is total: it gives a meaning to all words, also to those that nobody wrote.
-use Rattle.std.specs.Prelude.{◌≡◌, ℕ, ◌+◌, ◌-◌, ◌*◌, ◌/◌, ◌%◌, ◌<◌, Bool, true, false, cond, ◌==◌, nat_le}
+use Rattle.std.specs.Prelude.{◌≡◌, ℕ, zero, suc, ◌+◌, ◌-◌, ◌*◌, ◌/◌, ◌%◌, ◌<◌, Bool, true, false, cond, ◌==◌, nat_le, Option, Some, None}
 use Rattle.ledger.specs.declared.Loan.{Loan}
 use Rattle.ledger.specs.declared.Loan.TheVariants.{Home, Lent, Leaving}
+use Rattle.ledger.specs.declared.mapping.Mapping.{Mapping}
 use Rattle.ledger.specs.declared.Which.{Which}
 use Rattle.ledger.specs.declared.Which.TheVariants.{Upper, Lower}
 use Rattle.ledger.specs.declared.Use.{Use}
@@ -18,18 +19,24 @@ abbrev pub bit : Bool → ℕ
 bit true = 1
 bit false = 0
 
+abbrev pub mapping_word : Mapping → ℕ
+mapping_word m = bit m.writes + 4 * m.page + 1048576 * m.device
+
 abbrev pub loan_word : Loan → ℕ
 loan_word Home = 0
-loan_word (Lent d p w) = 1 + bit w + 4 * p + 1048576 * d
-loan_word (Leaving d p w) = 3 + bit w + 4 * p + 1048576 * d
+loan_word (Lent m) = 1 + mapping_word m
+loan_word (Leaving m) = 3 + mapping_word m
 
 abbrev pub is_set : ℕ → Bool
 is_set b = b == 1
 
+abbrev pub mapping_from : ℕ → Mapping
+mapping_from h = record { device = h / 1048576 % 32; page = h / 4 % 262144; writes = is_set (h % 2) }
+
 abbrev pub loan_from : ℕ → Loan
 loan_from h =
     cond (h == 0) Home
-    (cond (is_set ((h - 1) / 2 % 2)) (Leaving ((h - 1) / 1048576 % 32) ((h - 1) / 4 % 262144) (is_set ((h - 1) % 2))) (Lent ((h - 1) / 1048576 % 32) ((h - 1) / 4 % 262144) (is_set ((h - 1) % 2))))
+    (cond (is_set ((h - 1) / 2 % 2)) (Leaving (mapping_from (h - 1))) (Lent (mapping_from (h - 1))))
 
 -- Which table of a device: 0 the upper one, else the slot of a lower one plus 1.
 abbrev pub which_word : Which → ℕ
@@ -61,8 +68,8 @@ use_from low high =
 -- what can be packed: 32 devices and programs, 1,024 places, 512 slots, 262,144 pages of a device
 abbrev pub LoanFits : Loan → Type 0
 LoanFits Home = Unit {0}
-LoanFits (Lent d p w) = (d < 32) × (p < 262144)
-LoanFits (Leaving d p w) = (d < 32) × (p < 262144)
+LoanFits (Lent m) = (m.device < 32) × (m.page < 262144)
+LoanFits (Leaving m) = (m.device < 32) × (m.page < 262144)
 
 abbrev pub WhichFits : Which → Type 0
 WhichFits Upper = Unit {0}
@@ -105,6 +112,15 @@ abbrev pub DeviceFits : Device → Type 0
 DeviceFits Shut = Unit {0}
 DeviceFits (Opened c) = c < 32
 DeviceFits (Closing c) = c < 32
+
+-- A frame that may be noted: 0 where there is none, and else the frame plus 1.
+abbrev pub noted : ℕ → Option ℕ
+noted zero = None
+noted (suc f) = Some f
+
+abbrev pub note_of : Option ℕ → ℕ
+note_of None = 0
+note_of (Some f) = f + 1
 
 -- A number that is noted as such, as a table's frame: it is below 131,072.
 abbrev pub number_from : ℕ → ℕ

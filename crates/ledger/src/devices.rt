@@ -8,59 +8,66 @@ use crate::Device;
 use crate::layout::device_word;
 use crate::record::number;
 
-pub fn device_at(room: &[u64], d: u32) -> Device
-    requires { (65536 ≤ length room.now) × (d < 32) }
-    ensures { result ≡ device_of room.now d }
+pub fn device_at(words: &[u64], d: u32) -> Device
+    requires long { 65536 ≤ length words.now }
+    requires device { d < 32 }
+    ensures { result ≡ device_of words.now d }
 {
-    read(room[device_word(d)])
+    Device::from(words[device_word(d)])
 }
 
-pub fn set_device(room: &mut [u64], d: u32, state: Device)
-    requires { (65536 ≤ length room.old) × ((d < 32) × (DeviceFits state)) }
-    ensures { (n : ℕ) → view_of n room.new ≡ with_device d state (view_of n room.old) }
+pub fn set_device(words: &mut [u64], d: u32, state: Device)
+    requires long { 65536 ≤ length words.old }
+    requires device { d < 32 }
+    requires fits { DeviceFits state }
+    ensures { (n : ℕ) → view_of n words.new ≡ with_device d state (view_of n words.old) }
 {
-    let at = device_word(d);
-    room[at] = word(state);
+    words[device_word(d)] = u64::from(state);
 }
 
-// The frame of the upper table of d; 0 where none is noted.
-pub fn top_at(room: &[u64], d: u32) -> u32
-    requires { (65536 ≤ length room.now) × (d < 32) }
-    ensures { result ≡ top_of room.now d }
+// The frame of the upper table of d, which a device has that is not shut; 0 where none is noted. It stays a number, since
+// whoever asks knows that the device is not shut, and an Option would have to be taken apart there by a proof.
+pub fn top_at(words: &[u64], d: u32) -> u32
+    requires long { 65536 ≤ length words.now }
+    requires device { d < 32 }
+    ensures { result ≡ top_of words.now d }
 {
-    number(room[device_word(d) + 1])
+    number(words[device_word(d) + 1])
 }
 
-pub fn set_top(room: &mut [u64], d: u32, f: u32)
-    requires { (65536 ≤ length room.old) × ((d < 32) × (f < 131072)) }
-    ensures { (n : ℕ) → view_of n room.new ≡ with_top d f (view_of n room.old) }
+pub fn set_top(words: &mut [u64], d: u32, f: u32)
+    requires long { 65536 ≤ length words.old }
+    requires device { d < 32 }
+    requires frame { f < 131072 }
+    ensures { (n : ℕ) → view_of n words.new ≡ with_top d f (view_of n words.old) }
 {
-    let at = device_word(d) + 1;
-    room[at] = f as u64;
+    words[device_word(d) + 1] = f as u64;
 }
 
-fn word(state: Device) -> u64
-    requires { DeviceFits state }
-    ensures word { result ≡ device_word state }
-    ensures inverse { device_from result ≡ state }
-{
-    match state {
-        Device::Shut => 0,
-        Device::Opened(who) => 1 + 2 * who as u64,
-        Device::Closing(who) => 2 + 2 * who as u64,
+impl From<Device> for u64 {
+    ghost from_gives = { λ state word. word ≡ device_word state };
+
+    fn from(state: Device) -> u64 {
+        match state {
+            Device::Shut => 0,
+            Device::Opened(who) => 1 + 2 * who as u64,
+            Device::Closing(who) => 2 + 2 * who as u64,
+        }
     }
 }
 
-fn read(word: u64) -> Device
-    ensures { result ≡ device_from word }
-{
-    if word == 0 {
-        return Device::Shut;
-    }
-    let who = ((word - 1) / 2 % 32) as u32;
-    if (word - 1) % 2 == 1 {
-        Device::Closing(who)
-    } else {
-        Device::Opened(who)
+impl From<u64> for Device {
+    ghost from_gives = { λ word state. state ≡ device_from word };
+
+    fn from(word: u64) -> Device {
+        if word == 0 {
+            return Device::Shut;
+        }
+        let who = ((word - 1) / 2 % 32) as u32;
+        if (word - 1) % 2 == 1 {
+            Device::Closing(who)
+        } else {
+            Device::Opened(who)
+        }
     }
 }

@@ -8,29 +8,30 @@ use crate::Use;
 use crate::layout::frame_word;
 use crate::record::{Record, read};
 
-pub fn use_at(room: &[u64], f: u32) -> Use
-    requires { 65537 + 2 * f < length room.now }
-    ensures { result ≡ use_of room.now f }
+pub fn use_at(words: &[u64], f: u32) -> Use
+    requires { 65537 + 2 * f < length words.now }
+    ensures { result ≡ use_of words.now f }
 {
-    let (low, high) = words_at(room, f);
+    let (low, high) = words_at(words, f);
     read(low, high)
 }
 
 // The two words of a frame's record.
-fn words_at(room: &[u64], f: u32) -> (u64, u64)
-    requires { 65537 + 2 * f < length room.now }
-    ensures { use_from result.0 result.1 ≡ use_of room.now f }
+fn words_at(words: &[u64], f: u32) -> (u64, u64)
+    requires { 65537 + 2 * f < length words.now }
+    ensures { use_from result.0 result.1 ≡ use_of words.now f }
 {
     let at = frame_word(f);
-    (room[at], room[at + 1])
+    (words[at], words[at + 1])
 }
 
-pub fn set_use(room: &mut [u64], f: u32, used: Use)
-    requires { (65537 + 2 * f < length room.old) × (UseFits used) }
-    ensures { (n : ℕ) → f < n → view_of n room.new ≡ with_use f used (view_of n room.old) }
+pub fn set_use(words: &mut [u64], f: u32, used: Use)
+    requires long { 65537 + 2 * f < length words.old }
+    requires fits { UseFits used }
+    ensures { (n : ℕ) → f < n → view_of n words.new ≡ with_use f used (view_of n words.old) }
 {
     let at = frame_word(f);
     let record = Record::pack(used);
-    room[at] = record.low;
-    room[at + 1] = record.high;
+    words[at] = record.low;
+    words[at + 1] = record.high;
 }

@@ -4,58 +4,34 @@ ghost use Rattle.ledger.specs.declared.Loan.TheVariants.{Lent};
 ghost use Rattle.ledger.specs.declared.Place.TheVariants.{Page};
 ghost use Rattle.ledger.specs.declared.Device.TheVariants.{Opened};
 ghost use Rattle.ledger.specs.Room.{use_of, place_of, device_of, low_of};
-ghost use Rattle.ledger.specs.View.{view_of};
 ghost use Rattle.ledger.specs.Uses.{is_at, loan_in, recalled_loan};
-ghost use Rattle.ledger.specs.Consistent.{Consistent};
 ghost use Rattle.ledger.specs.Changes.{with_loan};
+ghost use Rattle.ledger.specs.Rooms.{says, Becomes};
 
-use crate::frames::use_at;
-use crate::pages::set_loan;
-use crate::{Loan, Use};
+use crate::{Address, Loan, Mapping, Room, Use};
 
-// Frame f, the page of `who` at v, is lent to d, which `who` has open, at page p, whose slot has a lower table and which no
-// other frame takes.
-pub fn lend_page(
-    room: &mut [u64],
-    frames: u32,
-    who: u32,
-    v: u32,
-    f: u32,
-    d: u32,
-    p: u32,
-    may_write: bool,
-)
-    requires consistent { Consistent frames room.old }
-    requires place { (who < 32) × ((v < 1024) × (place_of room.old who v ≡ Page f)) }
-    requires device { (device_of room.old d ≡ Opened who) × ((p < 262144) × ((low_of room.old d (p / 512) ≢ 0))) }
-    requires free { (g : ℕ) → g < frames → is_at d p (loan_in (use_of room.old g)) ≢ true }
-    ensures view { view_of frames room.new ≡ with_loan who v f (Lent d p may_write) (view_of frames room.old) }
-    ensures consistent { Consistent frames room.new }
-{
-    set_loan(
-        room,
-        frames,
-        who,
-        v,
-        f,
-        Loan::Lent {
-            device: d,
-            page: p,
-            writes: may_write,
-        },
-    );
-}
+impl Room<'_> {
+    // Frame f, the page at a place, is lent: to a device that its owner has open, at a page whose slot has a lower table and which
+    // no other frame takes.
+    pub fn lend_page(&mut self, at: Address, f: u32, to: Mapping)
+        requires place { place_of self.old.words.now at.who at.v ≡ Page f }
+        requires open { device_of self.old.words.now to.device ≡ Opened at.who }
+        requires page { to.page < 262144 }
+        requires table { low_of self.old.words.now to.device (to.page / 512) ≢ 0 }
+        requires free { (g : ℕ) → g < self.old.frames → is_at to.device to.page (loan_in (use_of self.old.words.now g)) ≢ true }
+        ensures { Becomes self.old (with_loan at.who at.v f (Lent to) (says self.old)) self.new }
+    {
+        self.set_loan(at, f, Loan::Lent(to));
+    }
 
-// The page of `who` at v, in frame f, comes home; or, if it may not yet, it is leaving if it was lent.
-pub fn recall_page(room: &mut [u64], frames: u32, who: u32, v: u32, f: u32, home: bool)
-    requires consistent { Consistent frames room.old }
-    requires place { (who < 32) × ((v < 1024) × (place_of room.old who v ≡ Page f)) }
-    ensures view { view_of frames room.new ≡ with_loan who v f (recalled_loan home (loan_in (use_of room.old f))) (view_of frames room.old) }
-    ensures consistent { Consistent frames room.new }
-{
-    let used = use_at(room, f);
-    let after = recalled(used, home);
-    set_loan(room, frames, who, v, f, after);
+    // The page at a place, in frame f, comes home; or, if it may not yet, it is leaving if it was lent.
+    pub fn recall_page(&mut self, at: Address, f: u32, home: bool)
+        requires { place_of self.old.words.now at.who at.v ≡ Page f }
+        ensures { Becomes self.old (with_loan at.who at.v f (recalled_loan home (loan_in (use_of self.old.words.now f))) (says self.old)) self.new }
+    {
+        let after = recalled(self.used(f), home);
+        self.set_loan(at, f, after);
+    }
 }
 
 fn recalled(used: Use, home: bool) -> Loan
@@ -66,17 +42,9 @@ fn recalled(used: Use, home: bool) -> Loan
     }
     match used {
         Use::PageOf {
-            loan: Loan::Lent {
-                device,
-                page,
-                writes,
-            },
+            loan: Loan::Lent(m),
             ..
-        } => Loan::Leaving {
-            device,
-            page,
-            writes,
-        },
+        } => Loan::Leaving(m),
         Use::PageOf { loan, .. } => loan,
         _ => Loan::Home,
     }

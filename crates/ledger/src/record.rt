@@ -1,8 +1,8 @@
 // What is known of a frame, packed into two words.
-ghost use Rattle.std.specs.Prelude.{◌≡◌};
-ghost use Rattle.ledger.specs.Words.{Canonical, UseFits, LoanFits, WhichFits, low_word, high_word, loan_word, which_word, use_from, loan_from, which_from, number_from};
+ghost use Rattle.std.specs.Prelude.{◌≡◌, ◌<◌};
+ghost use Rattle.ledger.specs.Words.{Canonical, UseFits, LoanFits, WhichFits, low_word, high_word, loan_word, mapping_word, which_word, use_from, loan_from, mapping_from, which_from, number_from};
 
-use crate::{Loan, Use, Which};
+use crate::{Loan, Mapping, Use, Which};
 
 // Two words that packing gives: unpacking and packing them gives the same two.
 #[derive(Clone, Copy)]
@@ -42,6 +42,7 @@ impl Record {
     }
 }
 
+// The parts of a record, both ways. No `From`: nothing but a record has them as words.
 fn which_word(which: Which) -> u64
     requires { WhichFits which }
     ensures { result ≡ which_word which }
@@ -58,39 +59,35 @@ fn loan_word(loan: Loan) -> u64
 {
     match loan {
         Loan::Home => 0,
-        Loan::Lent {
-            device,
-            page,
-            writes,
-        } => 1 + writes as u64 + 4 * page as u64 + 1048576 * device as u64,
-        Loan::Leaving {
-            device,
-            page,
-            writes,
-        } => 3 + writes as u64 + 4 * page as u64 + 1048576 * device as u64,
+        Loan::Lent(m) => 1 + mapping_word(m),
+        Loan::Leaving(m) => 3 + mapping_word(m),
     }
+}
+
+fn mapping_word(m: Mapping) -> u64
+    requires device { m.device < 32 }
+    requires page { m.page < 262144 }
+    ensures { result ≡ mapping_word m }
+{
+    m.writes as u64 + 4 * m.page as u64 + 1048576 * m.device as u64
 }
 
 // What any two words mean as a frame's record.
 pub fn read(low: u64, high: u64) -> Use
     ensures { result ≡ use_from low high }
 {
-    let kind = low % 4;
-    if kind == 0 {
-        Use::House
-    } else if kind == 1 {
-        Use::TableOf {
+    match low % 4 {
+        0 => Use::House,
+        1 => Use::TableOf {
             device: (low / 4 % 32) as u32,
             which: read_which(high),
-        }
-    } else if kind == 2 {
-        Use::Idle
-    } else {
-        Use::PageOf {
+        },
+        2 => Use::Idle,
+        _ => Use::PageOf {
             who: (low / 4096 % 32) as u32,
             place: (low / 4 % 1024) as u32,
             loan: read_loan(high),
-        }
+        },
     }
 }
 
@@ -110,22 +107,21 @@ fn read_loan(word: u64) -> Loan
     if word == 0 {
         return Loan::Home;
     }
-    let x = word - 1;
-    let device = (x / 1048576 % 32) as u32;
-    let page = (x / 4 % 262144) as u32;
-    let writes = x % 2 == 1;
-    if x / 2 % 2 == 1 {
-        Loan::Leaving {
-            device,
-            page,
-            writes,
-        }
+    let m = read_mapping(word - 1);
+    if (word - 1) / 2 % 2 == 1 {
+        Loan::Leaving(m)
     } else {
-        Loan::Lent {
-            device,
-            page,
-            writes,
-        }
+        Loan::Lent(m)
+    }
+}
+
+fn read_mapping(word: u64) -> Mapping
+    ensures { result ≡ mapping_from word }
+{
+    Mapping {
+        device: (word / 1048576 % 32) as u32,
+        page: (word / 4 % 262144) as u32,
+        writes: word % 2 == 1,
     }
 }
 

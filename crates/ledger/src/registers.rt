@@ -3,68 +3,58 @@ ghost use Rattle.std.specs.Prelude.{◌≡◌, ◌<◌};
 ghost use Rattle.ledger.specs.declared.Place.TheVariants.{Nothing, Registers};
 ghost use Rattle.ledger.specs.declared.Device.TheVariants.{Opened};
 ghost use Rattle.ledger.specs.Room.{place_of, device_of};
-ghost use Rattle.ledger.specs.View.{view_of, with_place};
+ghost use Rattle.ledger.specs.View.{with_place};
 ghost use Rattle.ledger.specs.Uses.{shows_any, shows_registers};
 ghost use Rattle.ledger.specs.Changes.{unregistered, vacated};
-ghost use Rattle.ledger.specs.Consistent.{Consistent};
+ghost use Rattle.ledger.specs.Rooms.{says, Becomes};
 
-use crate::Place;
-use crate::pages::free_page;
-use crate::places::{place_at, set_place};
+use crate::places::set_place;
+use crate::{Address, Place, Room};
 
-// Place v of `who`, which shows nothing, shows the registers of d, which `who` has open.
-pub fn show_registers(room: &mut [u64], frames: u32, who: u32, v: u32, d: u32)
-    requires consistent { Consistent frames room.old }
-    requires place { (who < 32) × ((v < 1024) × (place_of room.old who v ≡ Nothing)) }
-    requires device { (d < 32) × (device_of room.old d ≡ Opened who) }
-    ensures view { view_of frames room.new ≡ with_place who v (Registers d) (view_of frames room.old) }
-    ensures consistent { Consistent frames room.new }
-{
-    set_place(room, who, v, Place::Registers(d));
-}
-
-// If place v of `who` shows the registers of d, it shows nothing now; says whether that was so.
-pub fn hide_registers(room: &mut [u64], frames: u32, who: u32, v: u32, d: u32) -> bool
-    requires consistent { Consistent frames room.old }
-    requires place { (who < 32) × (v < 1024) }
-    ensures answer { result ≡ shows_registers d (place_of room.old who v) }
-    ensures view { view_of frames room.new ≡ unregistered who v d (view_of frames room.old) }
-    ensures consistent { Consistent frames room.new }
-{
-    let shown = place_at(room, who, v);
-    if !shows_registers(shown, d) {
-        return false;
+impl Room<'_> {
+    // A place that shows nothing shows the registers of d, which its program has open.
+    pub fn show_registers(&mut self, at: Address, d: u32)
+        requires place { place_of self.old.words.now at.who at.v ≡ Nothing }
+        requires device { d < 32 }
+        requires open { device_of self.old.words.now d ≡ Opened at.who }
+        ensures { Becomes self.old (with_place at.who at.v (Registers d) (says self.old)) self.new }
+    {
+        set_place(self.words, at, Place::Registers(d));
     }
-    set_place(room, who, v, Place::Nothing);
-    true
+
+    // If a place shows the registers of d, it shows nothing now; says whether that was so.
+    pub fn hide_registers(&mut self, at: Address, d: u32) -> bool
+        ensures answer { result ≡ shows_registers d (place_of self.old.words.now at.who at.v) }
+        ensures room { Becomes self.old (unregistered at.who at.v d (says self.old)) self.new }
+    {
+        let shows = shows_registers(self.place(at), d);
+        if shows {
+            set_place(self.words, at, Place::Nothing);
+        }
+        shows
+    }
+
+    // A place shows nothing now, and if it showed a page, that is idle; says whether it showed anything.
+    pub fn vacate(&mut self, at: Address) -> bool
+        ensures answer { result ≡ shows_any (place_of self.old.words.now at.who at.v) }
+        ensures room { Becomes self.old (vacated at.who at.v (says self.old)) self.new }
+    {
+        match self.place(at) {
+            Place::Nothing => false,
+            Place::Page(f) => {
+                self.free_page(at, f);
+                true
+            }
+            Place::Registers(_) => {
+                set_place(self.words, at, Place::Nothing);
+                true
+            }
+        }
+    }
 }
 
 fn shows_registers(shown: Place, d: u32) -> bool
     ensures { result ≡ shows_registers d shown }
 {
-    match shown {
-        Place::Registers(e) => e == d,
-        _ => false,
-    }
-}
-
-// Place v of `who` shows nothing now, and if it showed a page, that is idle; says whether it showed anything.
-pub fn vacate(room: &mut [u64], frames: u32, who: u32, v: u32) -> bool
-    requires consistent { Consistent frames room.old }
-    requires place { (who < 32) × (v < 1024) }
-    ensures answer { result ≡ shows_any (place_of room.old who v) }
-    ensures view { view_of frames room.new ≡ vacated who v (view_of frames room.old) }
-    ensures consistent { Consistent frames room.new }
-{
-    match place_at(room, who, v) {
-        Place::Nothing => false,
-        Place::Page(f) => {
-            free_page(room, frames, who, v, f);
-            true
-        }
-        Place::Registers(_) => {
-            set_place(room, who, v, Place::Nothing);
-            true
-        }
-    }
+    matches!(shown, Place::Registers(e) if e == d)
 }

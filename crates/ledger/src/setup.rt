@@ -3,42 +3,51 @@ ghost use Rattle.std.specs.Prelude.{◌≡◌, ℕ, ◌+◌, ◌*◌, ◌<◌, �
 ghost use Rattle.ledger.specs.declared.Use.TheVariants.{House, Idle};
 ghost use Rattle.ledger.specs.Room.{use_of};
 ghost use Rattle.ledger.specs.View.{view_of};
-ghost use Rattle.ledger.specs.Consistent.{Consistent};
 ghost use Rattle.ledger.specs.Changes.{empty};
 
+use crate::Room;
 use crate::layout::{LEFT_OVER, frame_word};
 
-// Frame 0 is the house's and every other is idle; nothing is shown, every device is shut, and there is no table.
-// Words past the last frame's record stay as they are.
-pub fn set_up(room: &mut [u64], frames: u32)
-    requires { (65536 + 2 * frames ≤ length room.old) × ((0 < frames) × (frames ≤ 65536)) }
-    ensures view { view_of frames room.new ≡ empty }
-    ensures consistent { Consistent frames room.new }
-    ensures beyond { (i : ℕ) → 65536 + 2 * frames ≤ i → slice_index room.new i ≡ slice_index room.old i }
-{
-    clear_tables(room);
-    clear_frames(room, frames);
-}
-
-fn clear_tables(room: &mut [u64])
-    requires { 65536 ≤ length room.old }
-    ensures cleared { (i : ℕ) → i < 49216 → slice_index room.new i ≡ 0 }
-    ensures others { (i : ℕ) → 49216 ≤ i → slice_index room.new i ≡ slice_index room.old i }
-{
-    for i in 0..LEFT_OVER {
-        room[i] = 0;
+impl<'a> Room<'a> {
+    // Frame 0 is the house's and every other is idle; nothing is shown, every device is shut, and there is no table.
+    // Words past the last frame's record stay as they are.
+    pub fn set_up(words: &'a mut [u64], frames: u32) -> Room<'a>
+        requires long { 65536 + 2 * frames ≤ length words.old }
+        requires some { 0 < frames }
+        requires few { frames ≤ 65536 }
+        ensures frames { result.frames ≡ frames }
+        ensures lender { result.words.ghost_name ≡ words.entry.ghost_name }
+        ensures view { view_of frames result.words.now ≡ empty }
+        ensures beyond { (i : ℕ) → 65536 + 2 * frames ≤ i → slice_index result.words.now i ≡ slice_index words.old i }
+    {
+        clear_tables(words);
+        clear_frames(words, frames);
+        Room { words, frames }
     }
 }
 
-fn clear_frames(room: &mut [u64], frames: u32)
-    requires { 65536 + 2 * frames ≤ length room.old }
-    ensures idle { (f : ℕ) → f < frames → use_of room.new f ≡ (if nat_eq f 0 then House else Idle) }
-    ensures others { (i : ℕ) → (i < 65536) ⊎ (65536 + 2 * frames ≤ i) → slice_index room.new i ≡ slice_index room.old i }
+// By index, not by `fill`: the proof of that names the part that is filled, so a part cut short would be found there and not by
+// the contract.
+fn clear_tables(words: &mut [u64])
+    requires { 65536 ≤ length words.old }
+    ensures cleared { (i : ℕ) → i < 49216 → slice_index words.new i ≡ 0 }
+    ensures others { (i : ℕ) → 49216 ≤ i → slice_index words.new i ≡ slice_index words.old i }
+{
+    for i in 0..LEFT_OVER {
+        words[i] = 0;
+    }
+}
+
+// By index, since layout says where a record is; a walk over pairs of words would say it again.
+fn clear_frames(words: &mut [u64], frames: u32)
+    requires { 65536 + 2 * frames ≤ length words.old }
+    ensures idle { (f : ℕ) → f < frames → use_of words.new f ≡ (if nat_eq f 0 then House else Idle) }
+    ensures others { (i : ℕ) → (i < 65536) ⊎ (65536 + 2 * frames ≤ i) → slice_index words.new i ≡ slice_index words.old i }
 {
     for f in 0..frames {
         let at = frame_word(f);
         let low = if f == 0 { 0 } else { 2 };
-        room[at] = low;
-        room[at + 1] = 0;
+        words[at] = low;
+        words[at + 1] = 0;
     }
 }

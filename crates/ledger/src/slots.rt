@@ -1,22 +1,37 @@
-// The lower table at each slot of each device: its frame plus 1, or 0 where there is none.
+// The lower table at each slot of each device: its frame, if there is one.
 ghost use Rattle.std.specs.Prelude.{◌≡◌, ℕ, ◌<◌, ◌≤◌, length};
+ghost use Rattle.ledger.specs.Words.{noted, note_of, number_from};
 ghost use Rattle.ledger.specs.Room.{low_of};
 ghost use Rattle.ledger.specs.View.{view_of, with_low};
 
+use crate::Slot;
 use crate::layout::slot_word;
 use crate::record::number;
 
-pub fn low_at(room: &[u64], d: u32, slot: u32) -> u32
-    requires { (65536 ≤ length room.now) × ((d < 32) × (slot < 512)) }
-    ensures { result ≡ low_of room.now d slot }
+pub fn low_at(words: &[u64], at: Slot) -> Option<u32>
+    requires { 65536 ≤ length words.now }
+    ensures { result ≡ noted (low_of words.now at.device at.index) }
 {
-    number(room[slot_word(d, slot)])
+    read(words[slot_word(at.device, at.index)])
 }
 
-pub fn set_low(room: &mut [u64], d: u32, slot: u32, x: u32)
-    requires { (65536 ≤ length room.old) × ((d < 32) × ((slot < 512) × (x < 131072))) }
-    ensures { (n : ℕ) → view_of n room.new ≡ with_low d slot x (view_of n room.old) }
+pub fn set_low(words: &mut [u64], at: Slot, table: Option<u32>)
+    requires long { 65536 ≤ length words.old }
+    requires fits { note_of table < 131072 }
+    ensures { (n : ℕ) → view_of n words.new ≡ with_low at.device at.index (note_of table) (view_of n words.old) }
 {
-    let at = slot_word(d, slot);
-    room[at] = x as u64;
+    words[slot_word(at.device, at.index)] = word(table);
+}
+
+// No `From`: neither type is of this crate.
+fn word(table: Option<u32>) -> u64
+    ensures { result ≡ note_of table }
+{
+    table.map_or(0, |f| f as u64 + 1)
+}
+
+fn read(word: u64) -> Option<u32>
+    ensures { result ≡ noted (number_from word) }
+{
+    number(word).checked_sub(1)
 }

@@ -1,20 +1,11 @@
 // Packed records as a table, and rooms of the fewest and of the most frames.
 ghost use Rattle.ledger.specs.Words.{UseFits};
-ghost use Rattle.ledger.specs.Consistent.{Consistent};
 ghost use Rattle.std.specs.Prelude.{◌+◌, ◌*◌, ◌<◌, ◌≤◌, length};
 
-use crate::devices::device_at;
 use crate::frames::use_at;
-use crate::loans::lend_page;
-use crate::pages::new_page;
-use crate::places::place_at;
 use crate::record::{Record, read};
-use crate::searches::{find_idle, page_taken};
-use crate::setup::set_up;
-use crate::slots::low_at;
-use crate::sweeps::{home_all, leave_all};
-use crate::tables::{add_lower, open_device};
-use crate::{Device, Loan, Place, Use, Which};
+use crate::searches::find_idle;
+use crate::{Address, Device, Loan, Mapping, Place, Room, Slot, Use, Which};
 
 // Whether a use is packed into these words, and read and unpacked from them.
 fn packs(used: Use, low: u64, high: u64) -> bool
@@ -22,76 +13,7 @@ fn packs(used: Use, low: u64, high: u64) -> bool
 {
     let record = Record::pack(used);
     let packed = record.low == low && record.high == high;
-    packed && same(read(low, high), used) && same(record.unpack(), used)
-}
-
-fn same(a: Use, b: Use) -> bool {
-    match (a, b) {
-        (Use::House, Use::House) => true,
-        (Use::Idle, Use::Idle) => true,
-        (
-            Use::TableOf {
-                device: d,
-                which: w,
-            },
-            Use::TableOf {
-                device: e,
-                which: x,
-            },
-        ) => d == e && same_table(w, x),
-        (
-            Use::PageOf {
-                who: c,
-                place: v,
-                loan: l,
-            },
-            Use::PageOf {
-                who: a,
-                place: b,
-                loan: m,
-            },
-        ) => c == a && v == b && same_loan(l, m),
-        _ => false,
-    }
-}
-
-fn same_table(a: Which, b: Which) -> bool {
-    match (a, b) {
-        (Which::Upper, Which::Upper) => true,
-        (Which::Lower(i), Which::Lower(j)) => i == j,
-        _ => false,
-    }
-}
-
-fn same_loan(a: Loan, b: Loan) -> bool {
-    match (a, b) {
-        (Loan::Home, Loan::Home) => true,
-        (
-            Loan::Lent {
-                device: d,
-                page: p,
-                writes: w,
-            },
-            Loan::Lent {
-                device: e,
-                page: q,
-                writes: x,
-            },
-        ) => d == e && p == q && w == x,
-        (
-            Loan::Leaving {
-                device: d,
-                page: p,
-                writes: w,
-            },
-            Loan::Leaving {
-                device: e,
-                page: q,
-                writes: x,
-            },
-        ) => d == e && p == q && w == x,
-        _ => false,
-    }
+    packed && read(low, high) == used && record.unpack() == used
 }
 
 #[test]
@@ -159,11 +81,11 @@ fn loans(rt: HostRuntime) {
             Use::PageOf {
                 who: 1,
                 place: 2,
-                loan: Loan::Lent {
+                loan: Loan::Lent(Mapping {
                     device: 0,
                     page: 0,
                     writes: false,
-                },
+                }),
             },
             4107,
             1,
@@ -174,11 +96,11 @@ fn loans(rt: HostRuntime) {
             Use::PageOf {
                 who: 1,
                 place: 2,
-                loan: Loan::Lent {
+                loan: Loan::Lent(Mapping {
                     device: 3,
                     page: 5,
                     writes: true,
-                },
+                }),
             },
             4107,
             3145750,
@@ -189,11 +111,11 @@ fn loans(rt: HostRuntime) {
             Use::PageOf {
                 who: 1,
                 place: 2,
-                loan: Loan::Leaving {
+                loan: Loan::Leaving(Mapping {
                     device: 3,
                     page: 5,
                     writes: false,
-                },
+                }),
             },
             4107,
             3145751,
@@ -204,11 +126,11 @@ fn loans(rt: HostRuntime) {
             Use::PageOf {
                 who: 1,
                 place: 2,
-                loan: Loan::Leaving {
+                loan: Loan::Leaving(Mapping {
                     device: 31,
                     page: 262143,
                     writes: true,
-                },
+                }),
             },
             4107,
             33554432,
@@ -217,28 +139,22 @@ fn loans(rt: HostRuntime) {
 }
 
 // A page at a place that shows nothing.
-fn get(room: &mut [u64], frames: u32, who: u32, v: u32) -> Option<u32>
-    requires consistent { Consistent frames room.old }
-    requires place { (who < 32) × (v < 1024) }
-    ensures { Consistent frames room.new }
-{
-    let Place::Nothing = place_at(room, who, v) else {
+fn get(room: &mut Room, at: Address) -> Option<u32> {
+    if room.place(at) != Place::Nothing {
         return None;
-    };
-    let f = find_idle(room, frames, 0)?;
-    new_page(room, frames, who, v, f);
+    }
+    let f = find_idle(room.words(), room.frames(), 0)?;
+    room.new_page(at, f);
     Some(f)
 }
 
 // How many pages a program can get at its places.
-fn fill(room: &mut [u64], frames: u32, who: u32) -> u32
-    requires consistent { Consistent frames room.old }
-    requires program { who < 32 }
-    ensures { Consistent frames room.new }
+fn fill(room: &mut Room, who: u32) -> u32
+    requires { who < 32 }
 {
     let mut pages = 0;
     for v in 0..1024 {
-        if get(room, frames, who, v).is_some() {
+        if get(room, Address { who, v }).is_some() {
             pages = v + 1;
         }
     }
@@ -246,11 +162,12 @@ fn fill(room: &mut [u64], frames: u32, who: u32) -> u32
 }
 
 // An empty room of so many frames, in which program 31 has all the pages that it can get.
-fn filled(room: &mut [u64], frames: u32) -> u32
-    requires { (65536 + 2 * frames ≤ length room.old) × ((0 < frames) × (frames ≤ 65536)) }
+fn filled(words: &mut [u64], frames: u32) -> u32
+    requires long { 65536 + 2 * frames ≤ length words.old }
+    requires some { 0 < frames }
+    requires few { frames ≤ 65536 }
 {
-    set_up(room, frames);
-    fill(room, frames, 31)
+    fill(&mut Room::set_up(words, frames), 31)
 }
 
 #[test]
@@ -267,130 +184,125 @@ fn most_frames(rt: HostRuntime) {
     let mut room = [u64::MAX; 196608];
     let pages = filled(&mut room, 65536);
     assert!(rt; pages == 1024);
-    assert!(rt; same(use_at(&room, 0), Use::House));
-    assert!(rt;
-        same(
-            use_at(&room, 1024),
-            Use::PageOf {
-                who: 31,
-                place: 1023,
-                loan: Loan::Home,
-            },
-        )
+    assert_eq!(rt; use_at(&room, 0), Use::House);
+    assert_eq!(rt;
+        use_at(&room, 1024),
+        Use::PageOf {
+            who: 31,
+            place: 1023,
+            loan: Loan::Home,
+        }
     );
-    assert!(rt; same(use_at(&room, 65535), Use::Idle));
+    assert_eq!(rt; use_at(&room, 65535), Use::Idle);
     assert_eq!(rt; find_idle(&room, 65536, 65535), Some(65535));
     assert_eq!(rt; find_idle(&room, 65536, 65536), Some(1025));
 }
 
-// Program 3 opens device 2, whose slot 1 gets a lower table.
-fn ready(room: &mut [u64], frames: u32) -> Option<u32>
-    requires consistent { Consistent frames room.old }
-    ensures { Consistent frames room.new }
-{
-    let Device::Shut = device_at(room, 2) else {
-        return None;
-    };
-    let top = find_idle(room, frames, 0)?;
-    open_device(room, frames, 3, 2, top);
-    slotted(room, frames)
-}
+const SLOT: Slot = Slot {
+    device: 2,
+    index: 1,
+};
 
-fn slotted(room: &mut [u64], frames: u32) -> Option<u32>
-    requires consistent { Consistent frames room.old }
-    ensures { Consistent frames room.new }
-{
-    let Device::Opened(3) = device_at(room, 2) else {
-        return None;
-    };
-    if low_at(room, 2, 1) != 0 {
+const PAGE: Address = Address { who: 3, v: 9 };
+
+// Program 3 opens device 2, whose slot 1 gets a lower table.
+fn ready(room: &mut Room) -> Option<u32> {
+    if room.device(2) != Device::Shut {
         return None;
     }
-    let low = find_idle(room, frames, 0)?;
-    add_lower(room, frames, 2, 1, low);
+    let top = find_idle(room.words(), room.frames(), 0)?;
+    room.open_device(3, 2, top);
+    slotted(room)
+}
+
+fn slotted(room: &mut Room) -> Option<u32> {
+    if room.device(2) != Device::Opened(3) || room.lower(SLOT).is_some() {
+        return None;
+    }
+    let low = find_idle(room.words(), room.frames(), 0)?;
+    room.add_lower(SLOT, low);
     Some(low)
 }
 
 // The page of program 3 at place 9 is lent to device 2 at page 519, where there is none yet.
-fn lent(room: &mut [u64], frames: u32) -> bool
-    requires consistent { Consistent frames room.old }
-    ensures { Consistent frames room.new }
-{
-    let Place::Page(f) = place_at(room, 3, 9) else {
+fn lent(room: &mut Room) -> bool {
+    let Place::Page(f) = room.place(PAGE) else {
         return false;
     };
-    let Device::Opened(3) = device_at(room, 2) else {
-        return false;
-    };
-    if low_at(room, 2, 1) == 0 || page_taken(room, frames, 2, 519) {
+    if room.device(2) != Device::Opened(3)
+        || room.lower(SLOT).is_none()
+        || room.page_taken(2, 519)
+    {
         return false;
     }
-    lend_page(room, frames, 3, 9, f, 2, 519, true);
+    room.lend_page(
+        PAGE,
+        f,
+        Mapping {
+            device: 2,
+            page: 519,
+            writes: true,
+        },
+    );
     true
 }
 
 // Device 2 is swept for program 3, if that has it open.
-fn swept(room: &mut [u64], frames: u32, home: bool) -> bool
-    requires consistent { Consistent frames room.old }
-    ensures { Consistent frames room.new }
-{
-    let Device::Opened(3) = device_at(room, 2) else {
+fn swept(room: &mut Room, home: bool) -> bool {
+    if room.device(2) != Device::Opened(3) {
         return false;
-    };
+    }
     if home {
-        home_all(room, frames, 3, 2);
+        room.home_all(3, 2);
     } else {
-        leave_all(room, frames, 3, 2);
+        room.leave_all(3, 2);
     }
     true
 }
 
 // Frame 1, the page of program 3 at place 9, has this loan.
-fn has_loan(room: &[u64], loan: Loan) -> bool
-    requires { 65664 ≤ length room.now }
-{
-    same(
-        use_at(room, 1),
-        Use::PageOf {
-            who: 3,
-            place: 9,
-            loan,
-        },
-    )
+fn has_loan(room: &Room, loan: Loan) -> bool {
+    room.frames() > 1
+        && room.used(1)
+            == Use::PageOf {
+                who: 3,
+                place: 9,
+                loan,
+            }
 }
 
 // A page is lent; it can't be lent there again until it has come home.
-fn lent_once(room: &mut [u64]) -> bool
-    requires { 65664 ≤ length room.old }
+fn lent_once(words: &mut [u64]) -> bool
+    requires { 65664 ≤ length words.old }
 {
-    set_up(room, 64);
-    let given = get(room, 64, 3, 9).is_some() && ready(room, 64).is_some() && lent(room, 64);
+    let mut room = Room::set_up(words, 64);
+    let given = get(&mut room, PAGE).is_some() && ready(&mut room).is_some() && lent(&mut room);
     if !given
-        || lent(room, 64)
+        || lent(&mut room)
         || !has_loan(
-            room,
-            Loan::Lent {
+            &room,
+            Loan::Lent(Mapping {
                 device: 2,
                 page: 519,
                 writes: true,
-            },
+            }),
         )
     {
         return false;
     }
-    let left = swept(room, 64, false)
+    let left = swept(&mut room, false)
         && has_loan(
-            room,
-            Loan::Leaving {
+            &room,
+            Loan::Leaving(Mapping {
                 device: 2,
                 page: 519,
                 writes: true,
-            },
+            }),
         );
-    if !left || lent(room, 64) {
+    if !left || lent(&mut room) {
         return false;
     }
-    swept(room, 64, true) && has_loan(room, Loan::Home) && lent(room, 64)
+    swept(&mut room, true) && has_loan(&room, Loan::Home) && lent(&mut room)
 }
 
 #[test]

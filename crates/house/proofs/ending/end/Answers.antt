@@ -1,46 +1,62 @@
-use Rattle.std.proofs.Common.{refl}
-use Rattle.std.proofs.lemmas.Result.{err_from_is_err_and}
+use Rattle.ledger.specs.Changes.{ended_below}
+use Rattle.ledger.specs.Consistent.{Consistent}
+use Rattle.ledger.specs.View.{view_of}
+use Rattle.ledger.specs.Uses.{owner_is}
+use Rattle.ledger.proofs.Becoming.{becomes_as}
+use Rattle.std.proofs.Common.{◌∙◌, arith, refl, ℕ, ◌≡◌, subst, true, false}
+use Rattle.ledger.specs.Room.{place_of, device_of}
+use Rattle.ledger.proofs.Emptied.{ended_all}
+use Rattle.house.specs.Closures.{shows_some, ClosedSoFar}
+use Rattle.house.proofs.Bared.{bare_all}
+use Rattle.house.proofs.Unmapped.{count_most}
+use Rattle.house.proofs.Refused.{refusal_told}
 use Rattle.house.proofs.Ends.{end_refused, end_may_close, end_may_hide, end_told_later, end_told_done}
 use Rattle.house.proofs.ending.end.Goals as goal
 
-pub returns-in_err-plan_end : goal.returns-in_err-plan_end
-returns-in_err-plan_end g c =
-    let p = err_from_is_err_and c.from_residual.result c.from_residual.ensures.1 in
-    record { told = rw (p.1, p.2) (end_refused _ c.requires.begins c.in_err-plan_end.ensures); accepted = rw p.1 tt; refused = rw p.1 (refl, refl, refl) }
+pub returns-in_err-plan_end-clause-told : goal.returns-in_err-plan_end-clause-told
+returns-in_err-plan_end-clause-told g c = rw (refusal_told _ c.from_residual.result c.from_residual.ensures.1) (record { lender = refl; keeps = end_refused _ c.requires.begins.begins c.in_err-plan_end.ensures })
+
+pub unmap_each-requires-clause-soon : goal.unmap_each-requires-clause-soon
+unmap_each-requires-clause-soon g c = let k = count_most (λ v. shows_some (place_of c.args.room.now.words.now c.args.p v)) 1024 in omega (arith, c.requires.soon)
 
 pub close_all-requires : goal.close_all-requires
 close_all-requires g c =
     let p = c.in_ok-plan_end.ensures in
-    let f = end_may_close c.frames-frames.ensures c.devices-devices.ensures c.requires.soon c.requires.begins c.unmap_registers.ensures.hid c.unmap_registers.new.room c.unmap_registers.ensures.view in
-    record { soon = (f.soon, f.frames); consistent = c.unmap_registers.ensures.consistent; devices = (p.0, (f.few, f.devices)); hidden = f.hidden }
+    let a = (becomes_as c.args.room.now c.unmap_each.new.room _ _ (bare_all c.args.room.now.frames c.args.room.now.words.now c.args.p) c.unmap_each.ensures.room) in
+    let f = end_may_close c.requires.begins.frames c.devices-devices.ensures c.requires.soon c.requires.begins.begins c.unmap_each.ensures.hid c.unmap_each.new.room.words.now a.2 in
+    record { soon = f.soon; some = f.frames; program = p.0; few = f.few; devices = f.devices; hidden = f.hidden }
 
-pub returns-then-not-close_all : goal.returns-then-not-close_all
-returns-then-not-close_all g c =
+pub returns-then-not-close_all-clause-told : goal.returns-then-not-close_all-clause-told
+returns-then-not-close_all-clause-told g c =
     let p = c.in_ok-plan_end.ensures in
     let f = c.if-not-close_all.ensures in
+    let a = (becomes_as c.args.room.now c.unmap_each.new.room _ _ (bare_all c.args.room.now.frames c.args.room.now.words.now c.args.p) c.unmap_each.ensures.room) in
     record {
-      told = end_told_later c.frames-frames.ensures c.devices-devices.ensures c.requires.begins p.0 p.1 c.unmap_registers.ensures.hid c.unmap_registers.new.room c.unmap_registers.ensures.view f.closed f.consistent;
-      accepted = tt;
-      refused = tt;
+      lender = f.same.1 ∙ a.1;
+      keeps = end_told_later c.requires.begins.frames c.devices-devices.ensures c.requires.begins.begins p.0 p.1 c.unmap_each.ensures.hid c.unmap_each.new.room.words.now a.2 (subst (λ (k : ℕ). ClosedSoFar (λ (d : ℕ). owner_is c.args.p (device_of c.unmap_each.new.room.words.now d)) c.args.p (view_of k c.unmap_each.new.room.words.now) (g.M.Machine.hw c.unmap_each.new.w) (g.M.Machine.seen c.unmap_each.new.w) c.devices-devices.result (view_of k c.close_all.new.room.words.now) false (g.M.Machine.hw c.close_all.new.w) (g.M.Machine.seen c.close_all.new.w)) a.0 f.closed) (subst (λ (k : ℕ). Consistent k c.close_all.new.room.words.now) (f.same.0 ∙ a.0) c.close_all.new.room.consistent);
     }
 
-pub unmap_pages-requires : goal.unmap_pages-requires
-unmap_pages-requires g c =
+pub unmap_each-requires-2 : goal.unmap_each-requires-2
+unmap_each-requires-2 g c =
     let p = c.in_ok-plan_end.ensures in
     let f = c.if-not-close_all.ensures in
-    let m = end_may_close c.frames-frames.ensures c.devices-devices.ensures c.requires.soon c.requires.begins c.unmap_registers.ensures.hid c.unmap_registers.new.room c.unmap_registers.ensures.view in
+    let a = (becomes_as c.args.room.now c.unmap_each.new.room _ _ (bare_all c.args.room.now.frames c.args.room.now.words.now c.args.p) c.unmap_each.ensures.room) in
+    let m = end_may_close c.requires.begins.frames c.devices-devices.ensures c.requires.soon c.requires.begins.begins c.unmap_each.ensures.hid c.unmap_each.new.room.words.now a.2 in
     record {
-      soon = end_may_hide c.frames-frames.result c.args.room.now c.close_all.new.room m.few c.requires.soon c.unmap_registers.ensures.hid c.unmap_registers.new.room c.unmap_registers.ensures.view f.closed;
-      consistent = f.consistent;
+      soon = end_may_hide c.args.room.now.frames c.args.room.now.words.now c.close_all.new.room.words.now m.few c.requires.soon c.unmap_each.ensures.hid c.unmap_each.new.room.words.now a.2 (subst (λ (k : ℕ). ClosedSoFar (λ (d : ℕ). owner_is c.args.p (device_of c.unmap_each.new.room.words.now d)) c.args.p (view_of k c.unmap_each.new.room.words.now) (g.M.Machine.hw c.unmap_each.new.w) (g.M.Machine.seen c.unmap_each.new.w) c.devices-devices.result (view_of k c.close_all.new.room.words.now) true (g.M.Machine.hw c.close_all.new.w) (g.M.Machine.seen c.close_all.new.w)) a.0 f.closed);
       program = p.0;
     }
 
-pub returns : goal.returns
-returns g c =
+pub returns-clause-told : goal.returns-clause-told
+returns-clause-told g c =
     let p = c.in_ok-plan_end.ensures in
     let f = c.if-not-close_all.ensures in
+    let a = (becomes_as c.args.room.now c.unmap_each.new.room _ _ (bare_all c.args.room.now.frames c.args.room.now.words.now c.args.p) c.unmap_each.ensures.room) in
+    let e = f.same.0 ∙ a.0 in
+    let o = c.unmap_each-2.ensures.room in
+    let v = subst (λ (k : ℕ). view_of k c.unmap_each-2.new.room.words.now ≡ ended_below c.args.p 1024 (view_of k c.close_all.new.room.words.now)) e o.2 in
     record {
-      told = end_told_done c.close_all.new.room c.frames-frames.ensures c.devices-devices.ensures c.requires.begins p.0 p.1 c.unmap_registers.ensures.hid c.unmap_registers.new.room c.unmap_registers.ensures.view f.closed c.unmap_pages.ensures.hid c.unmap_pages.ensures.view c.unmap_pages.ensures.consistent;
-      accepted = tt;
-      refused = tt;
+      lender = o.1 ∙ f.same.1 ∙ a.1;
+      keeps = end_told_done c.close_all.new.room.words.now c.requires.begins.frames c.devices-devices.ensures c.requires.begins.begins p.0 p.1 c.unmap_each.ensures.hid c.unmap_each.new.room.words.now a.2 (subst (λ (k : ℕ). ClosedSoFar (λ (d : ℕ). owner_is c.args.p (device_of c.unmap_each.new.room.words.now d)) c.args.p (view_of k c.unmap_each.new.room.words.now) (g.M.Machine.hw c.unmap_each.new.w) (g.M.Machine.seen c.unmap_each.new.w) c.devices-devices.result (view_of k c.close_all.new.room.words.now) true (g.M.Machine.hw c.close_all.new.w) (g.M.Machine.seen c.close_all.new.w)) a.0 f.closed) c.unmap_each-2.ensures.hid (v ∙ ended_all c.args.room.now.frames c.close_all.new.room.words.now (subst (λ (k : ℕ). Consistent k c.close_all.new.room.words.now) (f.same.0 ∙ a.0) c.close_all.new.room.consistent) c.args.p)
+          (subst (λ (k : ℕ). Consistent k c.unmap_each-2.new.room.words.now) (o.0 ∙ e) c.unmap_each-2.new.room.consistent);
     }

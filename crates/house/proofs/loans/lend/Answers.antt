@@ -1,13 +1,7 @@
 use Rattle.std.proofs.Common.{refl}
-use Rattle.std.proofs.lemmas.Result.{err_from_is_err_and}
+use Rattle.house.proofs.Refused.{refusal_told}
 use Rattle.house.proofs.LendCalls.{lend_refused}
 use Rattle.house.proofs.loans.lend.Goals as goal
 
-pub returns-in_err-frame : goal.returns-in_err-frame
-returns-in_err-frame g c =
-    let p = err_from_is_err_and c.from_residual.result c.from_residual.ensures.1 in
-    record {
-      told = rw (p.1, p.2) (lend_refused _ c.frames-frames.ensures c.devices-devices.ensures c.requires.begins c.in_err-frame.ensures);
-      accepted = rw p.1 tt;
-      refused = rw p.1 (refl, refl, refl, refl);
-    }
+pub returns-in_err-frame-clause-told : goal.returns-in_err-frame-clause-told
+returns-in_err-frame-clause-told g c = rw (refusal_told _ c.from_residual.result c.from_residual.ensures.1) (record { lender = refl; keeps = lend_refused _ c.requires.begins.frames c.devices-devices.ensures c.requires.begins.begins c.in_err-frame.ensures })

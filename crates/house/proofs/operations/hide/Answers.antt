@@ -2,5 +2,5 @@ use Rattle.house.specs.Machine.{Nothing}
 use Rattle.house.proofs.Asking.{shows_asked}
 use Rattle.house.proofs.operations.hide.Goals as goal
 
-pub returns : goal.returns
-returns g c = record { steps = c.hide.ensures; asked = shows_asked c.args.who c.args.v Nothing c.requires.0 c.hide.ensures }
+pub returns-clause-asked : goal.returns-clause-asked
+returns-clause-asked g c = shows_asked c.args.who c.args.v Nothing c.requires.soon c.hide.ensures

@@ -1,5 +1,5 @@
 use Rattle.house.proofs.Asking.{put_asked}
 use Rattle.house.proofs.operations.write.Goals as goal
 
-pub returns : goal.returns
-returns g c = record { steps = c.put.ensures; asked = put_asked c.requires.0 c.put.ensures }
+pub returns-clause-asked : goal.returns-clause-asked
+returns-clause-asked g c = put_asked c.requires.soon c.put.ensures

@@ -1,18 +1,17 @@
+use Rattle.ledger.proofs.Becoming.{still}
 use Rattle.std.proofs.Common.{refl}
-use Rattle.std.proofs.lemmas.Result.{err_from_is_err_and}
+use Rattle.house.proofs.Refused.{refusal_told}
 use Rattle.house.proofs.Getting.{get_refused, get_told}
 use Rattle.house.proofs.pages.get.Goals as goal
 
-pub returns-in_err-taken : goal.returns-in_err-taken
-returns-in_err-taken g c =
-    let p = err_from_is_err_and c.from_residual.result c.from_residual.ensures.1 in
-    record { told = rw (p.1, p.2) (get_refused _ c.frames-frames.ensures c.requires.begins c.in_err-taken.ensures); accepted = rw p.1 tt; refused = rw p.1 (refl, refl, refl, refl) }
+pub returns-in_err-taken-clause-told : goal.returns-in_err-taken-clause-told
+returns-in_err-taken-clause-told g c = rw (refusal_told _ c.from_residual.result c.from_residual.ensures.1) (record { lender = refl; keeps = get_refused _ c.requires.begins.frames c.requires.begins.begins c.in_err-taken.ensures })
 
-pub returns : goal.returns
-returns g c =
+pub returns-clause-told : goal.returns-clause-told
+returns-clause-told g c =
     let p = c.in_ok-taken.ensures in
+    let o = c.into_page-f.ensures.room in
     record {
-      told = get_told c.frames-frames.ensures c.requires.begins p.0 p.1 p.3 p.4 c.clear.ensures c.into_page-f.ensures.consistent c.into_page-f.ensures.view c.into_page-f.ensures.frame c.show.ensures;
-      accepted = tt;
-      refused = tt;
+      lender = o.1;
+      keeps = get_told c.requires.begins.frames c.requires.begins.begins p.0 p.1 p.2 p.3 c.clear.ensures (still c.args.room.now c.into_page-f.new.room _ o) o.2 c.into_page-f.ensures.frame c.show.ensures;
     }

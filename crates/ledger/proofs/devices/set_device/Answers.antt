@@ -1,5 +1,7 @@
-use Rattle.ledger.proofs.Entries.{wrote_device_at}
+use Rattle.std.proofs.Common.{ap, ◌∙◌}
+use Rattle.ledger.specs.Words.{device_from}
+use Rattle.ledger.proofs.Entries.{device_packed, wrote_device_at}
 use Rattle.ledger.proofs.devices.set_device.Goals as goal
 
 pub returns : goal.returns
-returns c n = wrote_device_at c.args.room.now c.device_word-at.result n c.word.result c.requires.0 c.args.d c.args.state c.device_word-at.ensures c.requires.1.0 c.word.ensures.inverse
+returns c n = wrote_device_at c.args.words.now c.device_word.result n c.from.result c.requires.long c.args.d c.args.state c.device_word.ensures c.requires.device (ap device_from c.from.ensures ∙ device_packed c.args.state c.requires.fits)

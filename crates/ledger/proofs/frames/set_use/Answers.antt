@@ -2,4 +2,4 @@ use Rattle.ledger.proofs.Entries.{wrote_use_at}
 use Rattle.ledger.proofs.frames.set_use.Goals as goal
 
 pub returns : goal.returns
-returns c n l = wrote_use_at c.args.room.now c.frame_word-at.result c.args.f c.pack-record.result.low c.pack-record.result.high n c.args.used c.frame_word-at.ensures c.requires.0 l c.pack-record.ensures.inverse
+returns c n l = wrote_use_at c.args.words.now c.frame_word-at.result c.args.f c.pack-record.result.low c.pack-record.result.high n c.args.used c.frame_word-at.ensures c.requires.long l c.pack-record.ensures.inverse

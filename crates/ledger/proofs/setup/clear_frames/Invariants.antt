@@ -5,5 +5,5 @@ use Rattle.ledger.proofs.setup.clear_frames.Given as goal
 
 abbrev pub invariant-loop-f : goal.invariant-loop-f
 invariant-loop-f l =
-    ((g : ℕ) → g < l.f → use_of l.room g ≡ cond (eqb g 0) House Idle) ×
-    ((k : ℕ) → (k < 65536) ⊎ (65536 + 2 * l.f ≤ k) → get_or l.room k 0 ≡ get_or l.initial.room k 0)
+    ((g : ℕ) → g < l.f → use_of l.words g ≡ cond (eqb g 0) House Idle) ×
+    ((k : ℕ) → (k < 65536) ⊎ (65536 + 2 * l.f ≤ k) → get_or l.words k 0 ≡ get_or l.initial.words k 0)

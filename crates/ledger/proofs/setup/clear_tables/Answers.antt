@@ -3,4 +3,4 @@ use Rattle.ledger.proofs.Cleared.{cleared_word}
 use Rattle.ledger.proofs.setup.clear_tables.Goals as goal
 
 pub loop-i-preserved : goal.loop-i-preserved
-loop-i-preserved c = cleared_word c.args.room.now c.loop-i.room c.loop-i.i (omega arith) c.loop-i.invariant
+loop-i-preserved c = cleared_word c.args.words.now c.loop-i.words c.loop-i.i (omega arith) c.loop-i.invariant

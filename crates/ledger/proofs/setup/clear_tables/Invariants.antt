@@ -2,4 +2,4 @@ use Rattle.std.proofs.Common.{◌≡◌, ℕ, ◌<◌, ◌≤◌, get_or}
 use Rattle.ledger.proofs.setup.clear_tables.Given as goal
 
 abbrev pub invariant-loop-i : goal.invariant-loop-i
-invariant-loop-i l = ((k : ℕ) → k < l.i → get_or l.room k 0 ≡ 0) × ((k : ℕ) → l.i ≤ k → get_or l.room k 0 ≡ get_or l.initial.room k 0)
+invariant-loop-i l = ((k : ℕ) → k < l.i → get_or l.words k 0 ≡ 0) × ((k : ℕ) → l.i ≤ k → get_or l.words k 0 ≡ get_or l.initial.words k 0)

@@ -1,0 +1,12 @@
+-- What a sweep over a program's places rests on.
+-- Nothing is assumed here.
+use Rattle.std.specs.Prelude.{◌≡◌, ℕ, ◌+◌, Bool}
+use Rattle.ledger.specs.declared.Place.{Place}
+use Rattle.ledger.specs.View.{View}
+
+-- shows says what is taken from a place; at and below are a view once it is taken from place k of c, and from those below k
+pub record SweepLaws (shows : Place → Bool) (at below : ℕ → ℕ → View → View) : Type 0 where
+  pub none : (c : ℕ) (v : View) → v ≡ below c 0 v
+  pub more : (c k : ℕ) (s t u : View) → t ≡ below c k s → u ≡ at c k t → u ≡ below c (k + 1) s
+  -- a place that the sweep has not come to shows what it showed
+  pub later : (c k : ℕ) (v : View) → shows ((below c k v).place c k) ≡ shows (v.place c k)
