@@ -1,17 +1,17 @@
 // Standard input and output as the two ends of a script.
-ghost use Rattle.std.specs.Prelude.{◌≡◌};
+ghost use Rattle.std.specs.Prelude.{◌≡◌, Some};
 
 use script::{Line, Lines, Outcome, read_line};
-use simulator::ends::{Item, Script};
+use simulator::ends::{BadLine, Script};
 use std::io;
 use std::io::{Read, Write};
 
-// `last` is what was handed over last. Once reading or writing has failed, the script is at its end.
+// `last` is what was handed over last, if anything was. Once reading or writing has failed, the script is at its end.
 #[derive(Drop)]
 pub struct Console<R, W> {
     lines: Lines<R>,
     out: W,
-    last: Outcome,
+    last: Option<Outcome>,
     failed: Option<io::Error>,
 }
 
@@ -20,7 +20,7 @@ impl<R: Read, W: Write> Console<R, W> {
         Console {
             lines,
             out,
-            last: Outcome::NotYet,
+            last: None,
             failed: None,
         }
     }
@@ -35,36 +35,28 @@ impl<R: Read, W: Write> Console<R, W> {
 }
 
 impl<R: Read, W: Write> Script for Console<R, W> {
-    ghost handed = { λ s o t. t.last ≡ o };
+    ghost handed = { λ s o t. t.last ≡ Some o };
 
-    fn line(&mut self) -> Item {
+    fn line(&mut self) -> Option<Result<Line, BadLine>> {
         if self.failed.is_some() {
-            return Item::End;
+            return None;
         }
         match self.lines.advance() {
-            Ok(Some(number)) => match read_line(self.lines.line()) {
-                Some(line) => Item::Line(line),
-                None => Item::Bad(number),
-            },
-            Ok(None) => Item::End,
+            Ok(number) => {
+                let number = number?;
+                Some(read_line(self.lines.line()).ok_or(BadLine(number)))
+            }
             Err(e) => {
                 self.failed = Some(e);
-                Item::End
+                None
             }
         }
     }
 
     fn outcome(&mut self, o: Outcome) {
-        self.last = o;
-        if let Err(e) = print(o, &mut self.out) {
+        self.last = Some(o);
+        if let Err(e) = writeln!(self.out, "{o}") {
             self.failed = Some(e);
         }
     }
-}
-
-fn print<W: Write>(outcome: Outcome, out: &mut W) -> io::Result<()> {
-    let mut text = [0; 32];
-    let len = outcome.write(&mut text);
-    out.write_all(&text[0..len])?;
-    out.write_all(b"\n")
 }

@@ -5,10 +5,14 @@ mod console;
 
 use console::Console;
 use script::Lines;
+use simulator::cached::{LowerTable, PageEntry, UpperTable};
+use simulator::devices::Device;
+use simulator::events::Event;
+use simulator::lent::Lent;
 use simulator::plays::play_on;
-use simulator::rows::{Device, Note};
+use simulator::spaces::View;
 use std::io;
-use std::io::{BufReader, BufWriter, ErrorKind};
+use std::io::{BufReader, BufWriter};
 
 const FRAMES: usize = 64;
 
@@ -32,38 +36,35 @@ const DEVICES: [Device; 4] = [
     },
 ];
 
-// 50,000 rows of four words.
+// How many events a machine has room for.
 const EVENTS: usize = 50_000;
 
 fn main(rt: HostRuntime) -> io::Result<()> {
     let mut memory = [0; 512 * FRAMES];
-    let mut spaces = [0; 32 * 1024];
-    let mut ups = [0; FRAMES];
-    let mut mids = [0; FRAMES];
-    let mut leaves = [0; FRAMES];
-    let mut flying = [0; FRAMES];
-    let mut log = [Note::BLANK; EVENTS];
+    let mut spaces = [View::Hidden; 32 * 1024];
+    let mut ups = [UpperTable::default(); FRAMES];
+    let mut mids = [LowerTable::default(); FRAMES];
+    let mut leaves = [PageEntry::default(); FRAMES];
+    let mut flying = [PageEntry::default(); FRAMES];
+    let mut log = [Event::Drained { d: 0, said: false }; EVENTS];
     let mut room = [0; 65536 + 2 * FRAMES];
     let mut console = Console::new(
         Lines::new(BufReader::new(rt.alloc(), rt.stdin())?),
         BufWriter::new(rt.alloc(), rt.stdout())?,
     );
+    // No `loop`: it is proved to end, and a script need not.
     for _ in 0..u64::MAX {
-        match play_on(
-            &mut memory,
-            &mut spaces,
-            &mut ups,
-            &mut mids,
-            &mut leaves,
-            &mut flying,
-            &mut log,
-            &DEVICES,
-            &mut room,
-            &mut console,
-        ) {
-            Ok(true) => {}
-            Ok(false) => break,
-            Err(_) => return Err(io::Error::from(ErrorKind::InvalidInput)),
+        let lent = Lent {
+            memory: &mut memory,
+            spaces: &mut spaces,
+            ups: &mut ups,
+            mids: &mut mids,
+            leaves: &mut leaves,
+            flying: &mut flying,
+            log: &mut log,
+        };
+        if !play_on(lent, &DEVICES, &mut room, &mut console)? {
+            break;
         }
     }
     console.finish()

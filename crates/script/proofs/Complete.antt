@@ -1,10 +1,9 @@
 -- What writes a line is read as that line.
-use Rattle.std.proofs.Common.{◌≡◌, ℕ, Bool, List, [], ◌∷◌, Some, codes, Option, refl, ap, ◌∙◌}
+use Rattle.std.proofs.Common.{◌≡◌, ℕ, Bool, List, [], ◌∷◌, Some, codes, Option, ap, ◌∙◌}
 use Rattle.std.specs.Option.{option_map}
-use Rattle.script.specs.Decimal.{index_of}
 use Rattle.script.specs.Language.{Part, text, index, exact, Written, access, request_parts, parts_of}
-use Rattle.script.specs.Parser.{give_of, regs_of, lend_of, simple_of, load_of, store_of, program_of, read_of, write_of, way_of, access_of, keep_of, kept_way, kept_of, head_of, sentence_of}
-use Rattle.script.specs.Parts.{and_then, later, last_of}
+use Rattle.script.specs.Parser.{give_of, regs_of, lend_of, load_of, store_of, program_of, read_of, write_of, way_of, access_of, keep_of, kept_way, kept_of, head_of, sentence_of}
+use Rattle.script.specs.Parts.{and_then, later}
 use Rattle.script.proofs.Steps.{index_step, text_step, index_last, exact_last, mode_last, none_left}
 use Rattle.script.specs.declared.forms.Line.{Line}
 use Rattle.script.specs.declared.forms.Line.TheVariants.{Call, Store, Load, Read, Write, Keep, Kept, Refuse, Seed, New}
@@ -33,26 +32,23 @@ lend_read v d p m ws h =
     let e = index_step p (text (access m) ∷ []) (later (later ws)) b.1 in
     simp (a.0, b.0, e.0, mode_last m (later (later (later ws))) e.1)
 
-simple_read : (verb : List ℕ) (n : ℕ) (q : Request) (ws : Words) → Written (index n ∷ []) ws → simple_of verb n ≡ Some q → and_then (last_of index_of ws) (simple_of verb) ≡ Some q
-simple_read verb n q ws h e = ap (λ (o : Option ℕ). and_then o (simple_of verb)) (index_last n ws h) ∙ e
-
 -- The words after a program's number.
 call_read : (who : ℕ) (q : Request) (ws : Words) → Written (request_parts q) ws → program_of who ws ≡ Some (Call who q)
 call_read who (Get v) ws h =
     let k = text_step (codes "get") (index v ∷ []) ws h in
-    ap (program_of who) k.0 ∙ ap (option_map (λ r. Call who r)) (simple_read (codes "get") v (Get v) (later ws) k.1 refl)
+    ap (program_of who) k.0 ∙ ap (option_map (λ r. Call who r)) (ap (option_map (λ n. Get n)) (index_last v (later ws) k.1))
 call_read who (Free v) ws h =
     let k = text_step (codes "free") (index v ∷ []) ws h in
-    ap (program_of who) k.0 ∙ ap (option_map (λ r. Call who r)) (simple_read (codes "free") v (Free v) (later ws) k.1 refl)
+    ap (program_of who) k.0 ∙ ap (option_map (λ r. Call who r)) (ap (option_map (λ n. Free n)) (index_last v (later ws) k.1))
 call_read who (Give v to at) ws h =
     let k = text_step (codes "give") (index v ∷ index to ∷ index at ∷ []) ws h in
     ap (program_of who) k.0 ∙ ap (option_map (λ r. Call who r)) (give_read v to at (later ws) k.1)
 call_read who (Open d) ws h =
     let k = text_step (codes "open") (index d ∷ []) ws h in
-    ap (program_of who) k.0 ∙ ap (option_map (λ r. Call who r)) (simple_read (codes "open") d (Open d) (later ws) k.1 refl)
+    ap (program_of who) k.0 ∙ ap (option_map (λ r. Call who r)) (ap (option_map (λ n. Open n)) (index_last d (later ws) k.1))
 call_read who (Close d) ws h =
     let k = text_step (codes "close") (index d ∷ []) ws h in
-    ap (program_of who) k.0 ∙ ap (option_map (λ r. Call who r)) (simple_read (codes "close") d (Close d) (later ws) k.1 refl)
+    ap (program_of who) k.0 ∙ ap (option_map (λ r. Call who r)) (ap (option_map (λ n. Close n)) (index_last d (later ws) k.1))
 call_read who (Regs d v) ws h =
     let k = text_step (codes "regs") (index d ∷ index v ∷ []) ws h in
     ap (program_of who) k.0 ∙ ap (option_map (λ r. Call who r)) (regs_read d v (later ws) k.1)
@@ -61,10 +57,10 @@ call_read who (Lend v d p m) ws h =
     ap (program_of who) k.0 ∙ ap (option_map (λ r. Call who r)) (lend_read v d p m (later ws) k.1)
 call_read who (Recall v) ws h =
     let k = text_step (codes "recall") (index v ∷ []) ws h in
-    ap (program_of who) k.0 ∙ ap (option_map (λ r. Call who r)) (simple_read (codes "recall") v (Recall v) (later ws) k.1 refl)
+    ap (program_of who) k.0 ∙ ap (option_map (λ r. Call who r)) (ap (option_map (λ n. Recall n)) (index_last v (later ws) k.1))
 call_read who (End w) ws h =
     let k = text_step (codes "end") (index w ∷ []) ws h in
-    ap (program_of who) k.0 ∙ ap (option_map (λ r. Call who r)) (simple_read (codes "end") w (End w) (later ws) k.1 refl)
+    ap (program_of who) k.0 ∙ ap (option_map (λ r. Call who r)) (ap (option_map (λ n. End n)) (index_last w (later ws) k.1))
 
 load_read : (who v word : ℕ) (ws : Words) → Written (index v ∷ index word ∷ []) ws → load_of who ws ≡ Some (Load who v word)
 load_read who v word ws h =
@@ -149,4 +145,4 @@ complete (Kept d p word x) ws h =
     by_text (Kept d p word x) (codes "kept") (index d ∷ index p ∷ text (codes "write") ∷ index word ∷ exact x ∷ []) ws h (kept_read d p word x (later ws))
 complete (Refuse n) ws h = by_text (Refuse n) (codes "no") (exact n ∷ []) ws h (λ k. simp (exact_last n (later ws) k))
 complete (Seed n) ws h = by_text (Seed n) (codes "seed") (exact n ∷ []) ws h (λ k. simp (exact_last n (later ws) k))
-complete New ws h = by_text New (codes "new") [] ws h (λ k. simp (none_left (later ws) k))
+complete New ws h = by_text New (codes "new") [] ws h (λ k. simp (none_left New (later ws) k))

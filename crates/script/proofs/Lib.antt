@@ -1,7 +1,5 @@
 pub mod Complete
 pub mod Cuts
-pub mod Decimals
-pub mod Digits
-pub mod Saturated
+pub mod Others
 pub mod Sound
 pub mod Steps

@@ -1,12 +1,14 @@
 -- What is read as a line writes that line.
-use Rattle.std.proofs.Common.{◌≡◌, ℕ, Bool, true, false, cond, ◌⊎◌, List, [], ◌∷◌, Some, None, codes, Option, sym, refl, ap, ◌∙◌, subst, inl, inr, ⊎_elim, arith}
+use Rattle.std.proofs.Common.{◌≡◌, ℕ, Bool, true, false, cond, ◌⊎◌, List, [], ◌∷◌, Some, None, codes, Option, sym, refl, ap, ◌∙◌, subst, inl, inr, ⊎_elim}
 use Rattle.std.specs.Option.{option_map}
 use Rattle.std.specs.Str.{bytes_eq}
+use Rattle.std.proofs.lemmas.Bool.{false≢true}
+use Rattle.std.proofs.lemmas.Option.{none-some, cond_some}
 use Rattle.std.proofs.lemmas.Slice.Eq.{bytes_eq-Decides}
 use Rattle.script.specs.Decimal.{index_of, exact_of}
 use Rattle.script.specs.Language.{Part, text, index, exact, Written, access, request_parts, parts_of}
-use Rattle.script.specs.Parser.{mode_of, give_of, regs_of, lend_of, simple_of, request_of, load_of, store_of, program_of, way_of, access_of, keep_of, kept_way, kept_of, machine_of, head_of, sentence_of}
-use Rattle.script.specs.Parts.{and_then, first, later, at_end, last_of}
+use Rattle.script.specs.Parser.{mode_of, give_of, regs_of, lend_of, request_of, load_of, store_of, program_of, way_of, access_of, keep_of, kept_way, kept_of, machine_of, head_of, sentence_of}
+use Rattle.script.specs.Parts.{and_then, first, later, alone, at_end, last_of}
 use Rattle.script.specs.declared.forms.Line.{Line}
 use Rattle.script.specs.declared.forms.Line.TheVariants.{Call, Store, Load, Read, Write, Keep, Kept, Refuse, Seed, New}
 use Rattle.script.specs.declared.forms.Request.{Request}
@@ -16,20 +18,13 @@ abbrev Words : Type 0
 Words = List (List ℕ)
 
 -- Where something came of several steps, it came of each.
-pub none_some : {A : Type 0} (a : A) → None ≡ Some a → ⊥
-none_some a e = let z : ◌≡◌ {A = ℕ} 0 1 = cc in omega arith
-
 bound : {A B : Type 0} (o : Option A) (f : A → Option B) (b : B) → and_then o f ≡ Some b → (a : A) × (o ≡ Some a) × (f a ≡ Some b)
-bound None f b e = absurd (none_some b e)
+bound None f b e = absurd (none-some b e)
 bound (Some a) f b e = (a, refl, e)
 
 made : {A B : Type 0} (o : Option A) (f : A → B) (b : B) → option_map f o ≡ Some b → (a : A) × (o ≡ Some a) × (f a ≡ b)
-made None f b e = absurd (none_some b e)
+made None f b e = absurd (none-some b e)
 made (Some a) f b e = (a, refl, cc)
-
-kept_if : {A : Type 0} (t : Bool) (o : Option A) (a : A) → cond t o None ≡ Some a → (t ≡ true) × (o ≡ Some a)
-kept_if true o a e = (refl, e)
-kept_if false o a e = absurd (none_some a e)
 
 by_test : {A : Type 0} (t : Bool) (x y : Option A) (a : A) → cond t x y ≡ Some a → ((t ≡ true) × (x ≡ Some a)) ⊎ (y ≡ Some a)
 by_test true x y a e = inl (refl, e)
@@ -42,67 +37,48 @@ by_text w t x y a e =
 
 -- Words against parts.
 index_first : (n : ℕ) (ps : List Part) (ws : Words) → first index_of ws ≡ Some n → Written ps (later ws) → Written (index n ∷ ps) ws
-index_first n ps [] e h = absurd (none_some n e)
+index_first n ps [] e h = absurd (none-some n e)
 index_first n ps (w ∷ ws) e h = (e, h)
 
 ended : (ws : Words) → at_end ws ≡ true → Written [] ws
 ended [] e = tt
-ended (w ∷ ws) e = absurd (false_true e)
-  where
-    false_true : false ≡ true → ⊥
-    false_true e = let z : ◌≡◌ {A = ℕ} 0 1 = cc in omega arith
+ended (w ∷ ws) e = absurd (false≢true e)
 
 index_only : (n : ℕ) (ws : Words) → last_of index_of ws ≡ Some n → Written (index n ∷ []) ws
 index_only n ws e =
     let b = bound (first index_of ws) _ n e in
-    let k = kept_if (at_end (later ws)) (Some b.0) n b.2 in
-    let same : b.0 ≡ n = cc in
-    index_first n [] ws (b.1 ∙ k.1) (ended (later ws) k.0)
+    let k = cond_some _ b.0 n b.2 in
+    index_first n [] ws (b.1 ∙ ap (λ m. Some m) k.1) (ended (later ws) k.0)
 
 exact_only : (n : ℕ) (ws : Words) → last_of exact_of ws ≡ Some n → Written (exact n ∷ []) ws
-exact_only n [] e = absurd (none_some n e)
+exact_only n [] e = absurd (none-some n e)
 exact_only n (w ∷ ws) e =
     let b = bound (exact_of w) _ n e in
-    let k = kept_if (at_end ws) (Some b.0) n b.2 in
-    (b.1 ∙ k.1, ended ws k.0)
+    let k = cond_some _ b.0 n b.2 in
+    (b.1 ∙ ap (λ m. Some m) k.1, ended ws k.0)
 
 mode_text : (w : List ℕ) (m : Bool) → mode_of w ≡ Some m → w ≡ access m
 mode_text w m e =
     ⊎_elim (λ h. let same : true ≡ m = cc in h.0 ∙ ap access same)
-    (λ f. ⊎_elim (λ h. let same : false ≡ m = cc in h.0 ∙ ap access same) (λ n. absurd (none_some m n)) (by_text w (codes "r") (Some false) None m f))
+    (λ f. ⊎_elim (λ h. let same : false ≡ m = cc in h.0 ∙ ap access same) (λ n. absurd (none-some m n)) (by_text w (codes "r") (Some false) None m f))
     (by_text w (codes "w") (Some true) (cond (bytes_eq w (codes "r")) (Some false) None) m e)
 
 mode_only : (m : Bool) (ws : Words) → last_of mode_of ws ≡ Some m → Written (text (access m) ∷ []) ws
-mode_only m [] e = absurd (none_some m e)
+mode_only m [] e = absurd (none-some m e)
 mode_only m (w ∷ ws) e =
     let b = bound (mode_of w) _ m e in
-    let k = kept_if (at_end ws) (Some b.0) m b.2 in
-    (mode_text w m (b.1 ∙ k.1), ended ws k.0)
+    let k = cond_some _ b.0 m b.2 in
+    (mode_text w m (b.1 ∙ ap (λ m. Some m) k.1), ended ws k.0)
 
 -- A request's words after the program's number, its verb first.
 abbrev Asks : List ℕ → Words → Request → Type 0
 Asks verb ws q = Written (request_parts q) (verb ∷ ws)
 
-asks_one : (f : ℕ → Request) (t verb : List ℕ) (n : ℕ) (ws : Words) (q : Request) → request_parts (f n) ≡ text t ∷ index n ∷ [] → Written (index n ∷ []) ws → (verb ≡ t) × (Some (f n) ≡ Some q) → Asks verb ws q
-asks_one f t verb n ws q parts h e =
-    let same : f n ≡ q = let k = e.1 in cc in
-    let words : Written (text t ∷ index n ∷ []) (verb ∷ ws) = (e.0, h) in
-    subst (Asks verb ws) same (subst (λ (ps : List Part). Written ps (verb ∷ ws)) (sym parts) words)
-
-simple_sound : (verb : List ℕ) (n : ℕ) (ws : Words) (q : Request) → Written (index n ∷ []) ws → simple_of verb n ≡ Some q → Asks verb ws q
-simple_sound verb n ws q h e =
-    ⊎_elim (asks_one (λ v. Get v) (codes "get") verb n ws q refl h) (λ e1.
-    ⊎_elim (asks_one (λ v. Free v) (codes "free") verb n ws q refl h) (λ e2.
-    ⊎_elim (asks_one (λ d. Open d) (codes "open") verb n ws q refl h) (λ e3.
-    ⊎_elim (asks_one (λ d. Close d) (codes "close") verb n ws q refl h) (λ e4.
-    ⊎_elim (asks_one (λ v. Recall v) (codes "recall") verb n ws q refl h) (λ e5.
-    ⊎_elim (asks_one (λ w. End w) (codes "end") verb n ws q refl h) (λ e6. absurd (none_some q e6))
-    (by_text verb (codes "end") _ _ q e5))
-    (by_text verb (codes "recall") _ _ q e4))
-    (by_text verb (codes "close") _ _ q e3))
-    (by_text verb (codes "open") _ _ q e2))
-    (by_text verb (codes "free") _ _ q e1))
-    (by_text verb (codes "get") _ _ q e)
+asks_one : (f : ℕ → Request) (t verb : List ℕ) (ws : Words) (q : Request) → ((n : ℕ) → request_parts (f n) ≡ text t ∷ index n ∷ []) → (verb ≡ t) × (option_map f (last_of index_of ws) ≡ Some q) → Asks verb ws q
+asks_one f t verb ws q parts e =
+    let m = made (last_of index_of ws) f q e.1 in
+    let words : Written (text t ∷ index m.0 ∷ []) (verb ∷ ws) = (e.0, index_only m.0 ws m.1) in
+    subst (Asks verb ws) m.2 (subst (λ (ps : List Part). Written ps (verb ∷ ws)) (sym (parts m.0)) words)
 
 asks_give : (verb : List ℕ) (ws : Words) (q : Request) → verb ≡ codes "give" → give_of ws ≡ Some q → Asks verb ws q
 asks_give verb ws q v e =
@@ -133,14 +109,24 @@ asks_lend verb ws q v e =
 
 request_sound : (verb : List ℕ) (ws : Words) (q : Request) → request_of verb ws ≡ Some q → Asks verb ws q
 request_sound verb ws q e =
-    ⊎_elim (λ h. asks_give verb ws q h.0 h.1) (λ e1.
-    ⊎_elim (λ h. asks_regs verb ws q h.0 h.1) (λ e2.
-    ⊎_elim (λ h. asks_lend verb ws q h.0 h.1) (λ e3.
-    let a = bound (last_of index_of ws) (simple_of verb) q e3 in
-    simple_sound verb a.0 ws q (index_only a.0 ws a.1) a.2)
-    (by_text verb (codes "lend") _ _ q e2))
-    (by_text verb (codes "regs") _ _ q e1))
-    (by_text verb (codes "give") _ _ q e)
+    ⊎_elim (asks_one (λ v. Get v) (codes "get") verb ws q (λ n. refl)) (λ e1.
+    ⊎_elim (asks_one (λ v. Free v) (codes "free") verb ws q (λ n. refl)) (λ e2.
+    ⊎_elim (λ h. asks_give verb ws q h.0 h.1) (λ e3.
+    ⊎_elim (asks_one (λ d. Open d) (codes "open") verb ws q (λ n. refl)) (λ e4.
+    ⊎_elim (asks_one (λ d. Close d) (codes "close") verb ws q (λ n. refl)) (λ e5.
+    ⊎_elim (λ h. asks_regs verb ws q h.0 h.1) (λ e6.
+    ⊎_elim (λ h. asks_lend verb ws q h.0 h.1) (λ e7.
+    ⊎_elim (asks_one (λ v. Recall v) (codes "recall") verb ws q (λ n. refl)) (λ e8.
+    ⊎_elim (asks_one (λ w. End w) (codes "end") verb ws q (λ n. refl)) (λ e9. absurd (none-some q e9))
+    (by_text verb (codes "end") _ _ q e8))
+    (by_text verb (codes "recall") _ _ q e7))
+    (by_text verb (codes "lend") _ _ q e6))
+    (by_text verb (codes "regs") _ _ q e5))
+    (by_text verb (codes "close") _ _ q e4))
+    (by_text verb (codes "open") _ _ q e3))
+    (by_text verb (codes "give") _ _ q e2))
+    (by_text verb (codes "free") _ _ q e1))
+    (by_text verb (codes "get") _ _ q e)
 
 -- A program's words, its number first; the number is read already.
 abbrev Says : ℕ → Words → Line → Type 0
@@ -167,7 +153,7 @@ program_call who verb ws l e n is =
     subst (λ (k : Line). Written (parts_of k) (n ∷ verb ∷ ws)) m.2 (is, request_sound verb ws m.0 m.1)
 
 program_sound : (who : ℕ) (ws : Words) (l : Line) → program_of who ws ≡ Some l → Says who ws l
-program_sound who [] l e = absurd (none_some l e)
+program_sound who [] l e = absurd (none-some l e)
 program_sound who (verb ∷ ws) l e =
     ⊎_elim (λ h. program_load who verb ws l h.0 h.1) (λ e1.
     ⊎_elim (λ h. program_store who verb ws l h.0 h.1) (λ e2. program_call who verb ws l e2)
@@ -179,7 +165,7 @@ abbrev Tells : Words → Line → Type 0
 Tells ws l = Written (parts_of l) ws
 
 way_sound : (dev : List ℕ) (d : ℕ) (ws vs : Words) (l : Line) → dev ≡ codes "dev" → first index_of vs ≡ Some d → ws ≡ later vs → way_of d ws ≡ Some l → Tells (dev ∷ vs) l
-way_sound dev d [] vs l h i so e = absurd (none_some l e)
+way_sound dev d [] vs l h i so e = absurd (none-some l e)
 way_sound dev d (way ∷ ws) vs l h i so e =
     ⊎_elim (λ k.
     let a = bound (first index_of ws) _ l k.1 in
@@ -195,7 +181,7 @@ way_sound dev d (way ∷ ws) vs l h i so e =
     (k.0, index_first a.0 (index b.0 ∷ exact m.0 ∷ []) ws a.1 (index_first b.0 (exact m.0 ∷ []) (later ws) b.1 (exact_only m.0 (later (later ws)) m.1))) in
     subst (Tells (dev ∷ vs)) m.2
     (h, index_first d (text (codes "write") ∷ index a.0 ∷ index b.0 ∷ exact m.0 ∷ []) vs i (subst (Written (text (codes "write") ∷ index a.0 ∷ index b.0 ∷ exact m.0 ∷ [])) so words)))
-    (λ e2. absurd (none_some l e2))
+    (λ e2. absurd (none-some l e2))
     (by_text way (codes "write") _ _ l e1))
     (by_text way (codes "read") _ _ l e)
 
@@ -218,13 +204,13 @@ record Rest (d p : ℕ) (ws : Words) (l : Line) : Type 0 where
   words : Written (text (codes "write") ∷ index word ∷ exact x ∷ []) ws
 
 rest_sound : (d p : ℕ) (ws : Words) (l : Line) → kept_way d p ws ≡ Some l → Rest d p ws l
-rest_sound d p [] l e = absurd (none_some l e)
+rest_sound d p [] l e = absurd (none-some l e)
 rest_sound d p (way ∷ ws) l e =
     ⊎_elim (λ k.
     let a = bound (first index_of ws) _ l k.1 in
     let m = made (last_of exact_of (later ws)) (λ x. Kept d p a.0 x) l a.2 in
     record { word = a.0; x = m.0; same = m.2; words = (k.0, index_first a.0 (exact m.0 ∷ []) ws a.1 (exact_only m.0 (later ws) m.1)) })
-    (λ e1. absurd (none_some l e1))
+    (λ e1. absurd (none-some l e1))
     (by_text way (codes "write") _ _ l e)
 
 kept_sound : (kept : List ℕ) (ws : Words) (l : Line) → kept ≡ codes "kept" → kept_of ws ≡ Some l → Tells (kept ∷ ws) l
@@ -244,11 +230,11 @@ tells_one f t head ws l parts h e =
     let words : Written (text t ∷ exact m.0 ∷ []) (head ∷ ws) = (h, exact_only m.0 ws m.1) in
     subst (Tells (head ∷ ws)) m.2 (subst (λ (ps : List Part). Written ps (head ∷ ws)) (sym (parts m.0)) words)
 
-new_sound : (head : List ℕ) (ws : Words) (l : Line) → head ≡ codes "new" → cond (at_end ws) (Some New) None ≡ Some l → Tells (head ∷ ws) l
-new_sound head ws l h e =
-    let k = kept_if (at_end ws) (Some New) l e in
+new_sound : (head : List ℕ) (ws : Words) (l : Line) → head ≡ codes "new" → alone New ws ≡ Some l → Tells (head ∷ ws) l
+new_sound head [] l h e =
     let same : New ≡ l = cc in
-    subst (Tells (head ∷ ws)) same (h, ended ws k.0)
+    subst (Tells (head ∷ [])) same (h, tt)
+new_sound head (w ∷ ws) l h e = absurd (none-some l e)
 
 machine_sound : (head : List ℕ) (ws : Words) (l : Line) → machine_of head ws ≡ Some l → Tells (head ∷ ws) l
 machine_sound head ws l e =
@@ -257,7 +243,7 @@ machine_sound head ws l e =
     ⊎_elim (λ h. kept_sound head ws l h.0 h.1) (λ e3.
     ⊎_elim (λ h. tells_one (λ n. Refuse n) (codes "no") head ws l (λ n. refl) h.0 h.1) (λ e4.
     ⊎_elim (λ h. tells_one (λ s. Seed s) (codes "seed") head ws l (λ n. refl) h.0 h.1) (λ e5.
-    ⊎_elim (λ h. new_sound head ws l h.0 h.1) (λ e6. absurd (none_some l e6))
+    ⊎_elim (λ h. new_sound head ws l h.0 h.1) (λ e6. absurd (none-some l e6))
     (by_text head (codes "new") _ _ l e5))
     (by_text head (codes "seed") _ _ l e4))
     (by_text head (codes "no") _ _ l e3))
@@ -266,9 +252,9 @@ machine_sound head ws l e =
     (by_text head (codes "dev") _ _ l e)
 
 head_sound : (o : Option ℕ) (ws : Words) (l : Line) → first index_of ws ≡ o → head_of o ws ≡ Some l → Written (parts_of l) ws
-head_sound None [] l i e = absurd (none_some l e)
+head_sound None [] l i e = absurd (none-some l e)
 head_sound None (w ∷ ws) l i e = machine_sound w ws l e
-head_sound (Some who) [] l i e = absurd (none_some who i)
+head_sound (Some who) [] l i e = absurd (none-some who i)
 head_sound (Some who) (w ∷ ws) l i e = program_sound who ws l e w i
 
 pub sound : (ws : Words) (l : Line) → sentence_of ws ≡ Some l → Written (parts_of l) ws

@@ -3,7 +3,7 @@ use Rattle.std.proofs.Common.{◌≡◌, ℕ, Bool, true, false, List, [], ◌�
 use Rattle.script.specs.Decimal.{index_of, exact_of}
 use Rattle.script.specs.Language.{Part, text, index, exact, Written, access}
 use Rattle.script.specs.Parser.{mode_of}
-use Rattle.script.specs.Parts.{first, later, at_end, last_of}
+use Rattle.script.specs.Parts.{first, later, alone, last_of}
 
 pub index_step : (n : ℕ) (ps : List Part) (ws : List (List ℕ)) → Written (index n ∷ ps) ws → (first index_of ws ≡ Some n) × Written ps (later ws)
 index_step n ps [] h = absurd h
@@ -32,6 +32,6 @@ mode_last m [] h = absurd h
 mode_last m (w ∷ []) h = simp (h.0, mode_access m)
 mode_last m (w ∷ v ∷ ws) h = absurd h.1
 
-pub none_left : (ws : List (List ℕ)) → Written [] ws → at_end ws ≡ true
-none_left [] h = refl
-none_left (w ∷ ws) h = absurd h
+pub none_left : {A : Type 0} (a : A) (ws : List (List ℕ)) → Written [] ws → alone a ws ≡ Some a
+none_left a [] h = refl
+none_left a (w ∷ ws) h = absurd h

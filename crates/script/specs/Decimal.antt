@@ -1,19 +1,15 @@
 -- Decimal numbers: digits only, at least one, leading noughts allowed, of any length.
-use Rattle.std.specs.Prelude.{ℕ, ◌+◌, ◌-◌, ◌*◌, ◌^◌, min, Bool, false, cond, List, [], ◌∷◌, Some, None, Option, nat_lt}
+use Rattle.std.specs.Prelude.{ℕ, ◌+◌, ◌-◌, ◌*◌, ◌^◌, min, Bool, ◌&&◌, cond, List, length, Some, None, Option, nat_lt, fold}
 use Rattle.std.specs.Option.{option_map, option_flatten}
-use Rattle.std.specs.Str.{all_ascii_digits}
+use Rattle.std.specs.Char.{is_ascii_digit}
+use Rattle.std.specs.List.{list_all}
 
 abbrev pub is_number : List ℕ → Bool
-is_number [] = false
-is_number (c ∷ cs) = all_ascii_digits (c ∷ cs)
+is_number w = nat_lt 0 (length w) && list_all is_ascii_digit w
 
--- The value of digits that follow a number n.
-abbrev pub value_after : ℕ → List ℕ → ℕ
-value_after n [] = n
-value_after n (c ∷ cs) = value_after (n * 10 + (c - 48)) cs
-
+-- The value of digits, from the left: each stands behind the number that the ones before it write.
 abbrev pub value : List ℕ → ℕ
-value ds = value_after 0 ds
+value ds = fold (λ n c. n * 10 + (c - 48)) 0 ds
 
 -- What a word writes, if it is a number.
 abbrev pub number_of : List ℕ → Option ℕ

@@ -1,7 +1,8 @@
 -- The words that are still to be read.
-use Rattle.std.specs.Prelude.{ℕ, cond, List, []}
+use Rattle.std.specs.Prelude.{ℕ, List, [], Some, None, Option}
+use denote.Ref.{Bor}
 use Rattle.script.specs.Spaces.{words_of}
-use Rattle.script.specs.declared.words.Words.{Words}
 
-abbrev pub left : Words → List (List ℕ)
-left w = cond w.finished [] (words_of w.rest.now)
+abbrev pub left : Option (Bor (List ℕ)) → List (List ℕ)
+left None = []
+left (Some rest) = words_of rest.now

@@ -3,7 +3,7 @@ use Rattle.std.specs.Prelude.{ℕ, Bool, true, false, cond, List, [], ◌∷◌,
 use Rattle.std.specs.Option.{option_map}
 use Rattle.std.specs.Str.{bytes_eq}
 use Rattle.script.specs.Decimal.{index_of, exact_of}
-use Rattle.script.specs.Parts.{and_then, first, later, at_end, last_of}
+use Rattle.script.specs.Parts.{and_then, first, later, alone, last_of}
 use Rattle.script.specs.declared.forms.Line.{Line}
 use Rattle.script.specs.declared.forms.Line.TheVariants.{Call, Store, Load, Read, Write, Keep, Kept, Refuse, Seed, New}
 use Rattle.script.specs.declared.forms.Request.{Request}
@@ -25,21 +25,18 @@ lend_of ws =
     and_then (first index_of (later ws)) (λ d.
     and_then (first index_of (later (later ws))) (λ p. option_map (λ m. Lend v d p m) (last_of mode_of (later (later (later ws)))))))
 
--- The calls of one number.
-abbrev pub simple_of : List ℕ → ℕ → Option Request
-simple_of verb n =
-    cond (bytes_eq verb (codes "get")) (Some (Get n)) (
-    cond (bytes_eq verb (codes "free")) (Some (Free n)) (
-    cond (bytes_eq verb (codes "open")) (Some (Open n)) (
-    cond (bytes_eq verb (codes "close")) (Some (Close n)) (
-    cond (bytes_eq verb (codes "recall")) (Some (Recall n)) (cond (bytes_eq verb (codes "end")) (Some (End n)) None)))))
-
 -- After the verb of a call.
 abbrev pub request_of : List ℕ → List (List ℕ) → Option Request
 request_of verb ws =
+    cond (bytes_eq verb (codes "get")) (option_map (λ v. Get v) (last_of index_of ws)) (
+    cond (bytes_eq verb (codes "free")) (option_map (λ v. Free v) (last_of index_of ws)) (
     cond (bytes_eq verb (codes "give")) (give_of ws) (
+    cond (bytes_eq verb (codes "open")) (option_map (λ d. Open d) (last_of index_of ws)) (
+    cond (bytes_eq verb (codes "close")) (option_map (λ d. Close d) (last_of index_of ws)) (
     cond (bytes_eq verb (codes "regs")) (regs_of ws) (
-    cond (bytes_eq verb (codes "lend")) (lend_of ws) (and_then (last_of index_of ws) (simple_of verb))))
+    cond (bytes_eq verb (codes "lend")) (lend_of ws) (
+    cond (bytes_eq verb (codes "recall")) (option_map (λ v. Recall v) (last_of index_of ws)) (
+    cond (bytes_eq verb (codes "end")) (option_map (λ w. End w) (last_of index_of ws)) None))))))))
 
 abbrev pub load_of : ℕ → List (List ℕ) → Option Line
 load_of who ws = and_then (first index_of ws) (λ v. option_map (λ word. Load who v word) (last_of index_of (later ws)))
@@ -88,7 +85,7 @@ machine_of head ws =
     cond (bytes_eq head (codes "kept")) (kept_of ws) (
     cond (bytes_eq head (codes "no")) (option_map (λ n. Refuse n) (last_of exact_of ws)) (
     cond (bytes_eq head (codes "seed")) (option_map (λ s. Seed s) (last_of exact_of ws)) (
-    cond (bytes_eq head (codes "new")) (cond (at_end ws) (Some New) None) None)))))
+    cond (bytes_eq head (codes "new")) (alone New ws) None)))))
 
 -- By whether the first word is a number.
 abbrev pub head_of : Option ℕ → List (List ℕ) → Option Line

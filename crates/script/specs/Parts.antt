@@ -20,3 +20,8 @@ at_end (w ∷ ws) = false
 -- The last word, read by f.
 abbrev pub last_of : {A : Type 0} → (List ℕ → Option A) → List (List ℕ) → Option A
 last_of f ws = and_then (first f ws) (λ a. cond (at_end (later ws)) (Some a) None)
+
+-- What is read where no word is left.
+abbrev pub alone : {A : Type 0} → A → List (List ℕ) → Option A
+alone a [] = Some a
+alone a (w ∷ ws) = None

@@ -1,6 +1,7 @@
 // What a line of a script can be. A number of 32 bits is 2^32 - 1 where the script has a larger one.
 
 // What a program asks of the keeper. v: a place in its own space; d: a device; p: a page of what a device sees.
+// The keeper has a type with the same variants: a reader of scripts doesn't stand on the keeper, so each has its own.
 #[derive(Clone, Copy, PartialEq, Eq, Debug)]
 pub enum Request {
     Get {

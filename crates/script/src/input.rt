@@ -1,60 +1,20 @@
 // The lines of an input, one at a time, in a buffer of fixed size.
-ghost use Rattle.std.specs.Prelude.{◌≡◌, ◌≤◌, [], ◌∷◌, ◌++◌, length, take, if◌then◌else◌, nat_lt};
+ghost use Rattle.std.specs.Prelude.{◌≡◌, ◌≤◌, length};
 ghost use Rattle.script.specs.Counts.{Counted};
 
 use crate::reader::LONGEST;
+use arrayvec::ArrayVec;
 use std::io;
 use std::io::Read;
 
 // One byte more than a line has at most: what is longer is cut off there, and still is too long.
 const ROOM: usize = LONGEST + 1;
 
-// A line as far as it is read.
-#[derive(Drop)]
-struct Held {
-    bytes: [u8; ROOM],
-    len: usize,
-    ghost ok: { len ≤ 257 },
-}
-
-impl Held {
-    fn new() -> Held
-        ensures { take result.len result.bytes ≡ [] }
-    {
-        Held {
-            bytes: [0; ROOM],
-            len: 0,
-        }
-    }
-
-    fn push(&mut self, b: u8)
-        ensures { take self.new.len self.new.bytes ≡ (if nat_lt self.old.len 257 then take self.old.len self.old.bytes ++ b ∷ [] else take self.old.len self.old.bytes) }
-    {
-        if self.len < ROOM {
-            self.bytes[self.len] = b;
-            self.len += 1;
-        }
-    }
-
-    fn clear(&mut self)
-        ensures { take self.new.len self.new.bytes ≡ [] }
-    {
-        self.len = 0;
-    }
-
-    fn bytes(&self) -> &[u8]
-        ensures bytes { result.now ≡ take self.now.len self.now.bytes }
-        ensures within { length result.now ≤ 257 }
-    {
-        &self.bytes[0..self.len]
-    }
-}
-
 // Lines end with a line feed. A last one without it counts, and nothing after a last line feed does not.
 #[derive(Drop)]
 pub struct Lines<R> {
     input: R,
-    held: Held,
+    held: ArrayVec<u8, ROOM>,
     count: u64,
 }
 
@@ -64,7 +24,7 @@ impl<R: Read> Lines<R> {
     {
         Lines {
             input,
-            held: Held::new(),
+            held: ArrayVec::new(),
             count: 0,
         }
     }
@@ -75,16 +35,15 @@ impl<R: Read> Lines<R> {
     {
         self.held.clear();
         let mut began = false;
-        for _ in 0..u64::MAX {
-            let mut byte = [0];
-            if self.input.read(&mut byte)? == 0 {
-                break;
-            }
+        for byte in self.input.by_ref().bytes() {
             began = true;
-            if byte[0] == b'\n' {
-                break;
+            match byte? {
+                b'\n' => break,
+                b => {
+                    // What has no room is left out.
+                    let _ = self.held.try_push(b);
+                }
             }
-            self.held.push(byte[0]);
         }
         if !began {
             return Ok(None);
@@ -95,9 +54,9 @@ impl<R: Read> Lines<R> {
 
     // The line without its line feed, or its first 257 bytes.
     pub fn line(&self) -> &[u8]
-        ensures bytes { result.now ≡ take self.now.held.len self.now.held.bytes }
+        ensures bytes { result.now ≡ self.now.held.items }
         ensures within { length result.now ≤ 257 }
     {
-        self.held.bytes()
+        self.held.as_slice()
     }
 }

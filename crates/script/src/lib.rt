@@ -2,6 +2,7 @@
 // Nothing here knows of the machine that a script is played on.
 #![tactic(auto)]
 
+mod fields;
 mod forms;
 mod input;
 mod numbers;
@@ -11,8 +12,9 @@ mod reader;
 mod tests;
 mod words;
 
+pub use fields::Field;
 pub use forms::{Line, Request};
 pub use input::Lines;
-pub use numbers::{Number, read_number};
+pub use numbers::{NumberError, read_number};
 pub use outcomes::Outcome;
 pub use reader::read_line;

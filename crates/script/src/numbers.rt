@@ -1,76 +1,38 @@
 // Decimal numbers of any length.
-ghost use Rattle.std.specs.Prelude.{◌≡◌, true};
-ghost use Rattle.std.specs.Option.{option_map};
-ghost use Rattle.std.specs.Str.{all_ascii_digits};
-ghost use Rattle.script.specs.Decimal.{is_number, value, number_of};
-ghost use Rattle.script.specs.Sizes.{sized, index_from, exact_from};
+ghost use Rattle.std.specs.Prelude.{◌≡◌, ◌+◌, ◌-◌, ◌*◌, ◌^◌};
+ghost use Rattle.script.specs.Decimal.{is_number, number_of, below};
+ghost use Rattle.script.specs.Sizes.{sized};
 
-// The value of some digits, where 64 bits hold it.
+// Why bytes are not read as a number.
 #[derive(Clone, Copy, PartialEq, Eq, Debug)]
-pub enum Number {
-    Exact(u64),
+pub enum NumberError {
+    NotDigits,
     TooLarge,
 }
 
-impl Number {
-    // The number, or 2^32 - 1 where it is larger.
-    pub fn index(self) -> u32
-        ensures { result ≡ index_from self }
-    {
-        match self {
-            Number::Exact(n) => n.min(0xffff_ffff) as u32,
-            Number::TooLarge => 0xffff_ffff,
-        }
-    }
-
-    // The number, if it is not too large.
-    pub fn exact(self) -> Option<u64>
-        ensures { result ≡ exact_from self }
-    {
-        match self {
-            Number::Exact(n) => Some(n),
-            Number::TooLarge => None,
-        }
-    }
-}
-
-// The number that the bytes write, if they are digits and nothing else.
-pub fn read_number(word: &[u8]) -> Option<Number>
-    ensures { result ≡ option_map sized (number_of word.now) }
+// The number that the bytes write, if they are digits and nothing else, and 64 bits hold it.
+pub fn read_number(word: &[u8]) -> Result<u64, NumberError>
+    ensures { result ≡ sized (number_of word.now) }
 {
     if !is_number(word) {
-        return None;
+        return Err(NumberError::NotDigits);
     }
-    Some(value_of(word))
+    word.iter()
+        .try_fold(0, followed_by)
+        .ok_or(NumberError::TooLarge)
 }
 
 // At least one digit, and nothing else.
 fn is_number(word: &[u8]) -> bool
     ensures { result ≡ is_number word.now }
 {
-    if word.is_empty() {
-        return false;
-    }
-    for b in word {
-        if *b < b'0' || *b > b'9' {
-            return false;
-        }
-    }
-    true
+    !word.is_empty() && word.iter().all(u8::is_ascii_digit)
 }
 
-// The value of digits, or that it does not fit.
-fn value_of(digits: &[u8]) -> Number
-    requires { all_ascii_digits digits.now ≡ true }
-    ensures { result ≡ sized (value digits.now) }
+// The number with one more digit behind it.
+fn followed_by(n: u64, digit: &u8) -> Option<u64>
+    ensures { result ≡ below (2 ^ 64) (n * 10 + (digit.now - 48)) }
 {
-    let mut n: u64 = 0;
-    for b in digits {
-        let digit = u64::from(*b - b'0');
-        if n > (u64::MAX - digit) / 10 {
-            return Number::TooLarge;
-        }
-        n = n * 10 + digit;
-    }
-    Number::Exact(n)
+    n.checked_mul(10)?
+        .checked_add(u64::from(digit.saturating_sub(b'0')))
 }

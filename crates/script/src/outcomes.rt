@@ -1,6 +1,11 @@
 // What came of a line, and its text.
-ghost use Rattle.std.specs.Prelude.{◌≡◌, ◌+◌, ◌≤◌, ◌++◌, length, take, decimal};
+ghost use Rattle.std.specs.Prelude.{◌≡◌, ◌+◌, ◌≤◌, ◌++◌, length, take, decimal, Some};
 ghost use Rattle.script.specs.Texts.{text_of};
+ghost use Rattle.arrayvec.specs.ArrayString.{array_string_len};
+
+use arrayvec::ArrayString;
+use itoa::Buffer;
+use std::fmt;
 
 #[derive(Clone, Copy, PartialEq, Eq, Debug)]
 pub enum Outcome {
@@ -30,65 +35,58 @@ pub enum Outcome {
 
 impl Outcome {
     // Writes the text at the front of the buffer, and gives its length.
+    // `Display` cannot take its place: its contract says what is written where `fmt` succeeds, and not that it does.
     pub fn write(self, out: &mut [u8; 32]) -> usize
         ensures within { result ≤ 32 }
         ensures text { take result out.new ≡ text_of self }
     {
+        let text = self.text();
+        out[..text.len()].copy_from_slice(text.as_bytes());
+        text.len()
+    }
+
+    fn text(self) -> ArrayString<32>
+        ensures { result.bytes ≡ text_of self }
+    {
+        let mut text = ArrayString::new();
         match self {
-            Outcome::Done => put(out, 0, b"done"),
-            Outcome::Later => put(out, 0, b"later"),
-            Outcome::No(n) => {
-                let at = put(out, 0, b"no ");
-                put_number(out, at, u64::from(n))
-            }
-            Outcome::Loaded(x) => {
-                let at = put(out, 0, b"load ");
-                put_number(out, at, x)
-            }
-            Outcome::Stored => put(out, 0, b"stored"),
-            Outcome::Fault => put(out, 0, b"fault"),
-            Outcome::Poked => put(out, 0, b"poked"),
-            Outcome::Took(x) => {
-                let at = put(out, 0, b"took ");
-                put_number(out, at, x)
-            }
-            Outcome::Put => put(out, 0, b"put"),
-            Outcome::Miss => put(out, 0, b"miss"),
-            Outcome::Kept => put(out, 0, b"kept"),
-            Outcome::Nothing => put(out, 0, b"nothing"),
-            Outcome::NotYet => put(out, 0, b"not yet"),
-            Outcome::Over => put(out, 0, b"over"),
+            Outcome::Done => text.push_str("done"),
+            Outcome::Later => text.push_str("later"),
+            Outcome::No(n) => push_numbered(&mut text, "no ", u64::from(n)),
+            Outcome::Loaded(x) => push_numbered(&mut text, "load ", x),
+            Outcome::Stored => text.push_str("stored"),
+            Outcome::Fault => text.push_str("fault"),
+            Outcome::Poked => text.push_str("poked"),
+            Outcome::Took(x) => push_numbered(&mut text, "took ", x),
+            Outcome::Put => text.push_str("put"),
+            Outcome::Miss => text.push_str("miss"),
+            Outcome::Kept => text.push_str("kept"),
+            Outcome::Nothing => text.push_str("nothing"),
+            Outcome::NotYet => text.push_str("not yet"),
+            Outcome::Over => text.push_str("over"),
             Outcome::BadLine(k) => {
-                let at = put(out, 0, b"line ");
-                let at = put_number(out, at, k);
-                put(out, at, b"?")
+                push_numbered(&mut text, "line ", k);
+                text.push_str("?");
             }
         }
+        text
     }
 }
 
-// Writes a text at a place, and gives where it ends.
-fn put(out: &mut [u8], at: usize, text: &[u8]) -> usize
-    requires { at + length text.now ≤ length out.old }
-    ensures end { result ≡ at + length text.now }
-    ensures after { take result out.new ≡ take at out.old ++ text.now }
-{
-    let end = at + text.len();
-    out[at..end].copy_from_slice(text);
-    end
+impl fmt::Display for Outcome {
+    ghost output = { λ outcome. Some (text_of outcome) };
+
+    fn fmt<W: fmt::Write>(&self, f: &mut fmt::Formatter<W>) -> fmt::Result {
+        f.write_str(self.text().as_str())
+    }
 }
 
-// Writes a number of at most 20 digits in the same way.
-fn put_number(out: &mut [u8], at: usize, n: u64) -> usize
-    requires { at + 20 ≤ length out.old }
-    ensures within { result ≤ at + 20 }
-    ensures end { result ≡ at + length (decimal n) }
-    ensures after { take result out.new ≡ take at out.old ++ decimal n }
+// Appends a text, and a number of at most 20 digits.
+fn push_numbered(text: &mut ArrayString<32>, before: &str, n: u64)
+    requires { array_string_len text.old + length before.now ≤ 12 }
+    ensures bytes { text.new.bytes ≡ text.old.bytes ++ (before.now ++ decimal n) }
+    ensures room { array_string_len text.new ≤ array_string_len text.old + length before.now + 20 }
 {
-    let digit = [b'0' + (n % 10) as u8];
-    if n < 10 {
-        return put(out, at, &digit);
-    }
-    let end = put_number(out, at, n / 10);
-    put(out, end, &digit)
+    text.push_str(before);
+    text.push_str(Buffer::new().format(n));
 }

@@ -1,19 +1,19 @@
 // A line from its bytes.
-ghost use Rattle.std.specs.Prelude.{◌≡◌, Some};
+ghost use Rattle.std.specs.Prelude.{◌≡◌, Some, IfSome};
 ghost use Rattle.script.specs.Language.{Writes};
-ghost use Rattle.script.specs.Left.{left};
-ghost use Rattle.script.specs.Parser.{sentence_of, program_of, machine_of, load_of, store_of, access_of, read_of, write_of, keep_of, kept_of, request_of, simple_of, give_of, regs_of, lend_of, mode_of};
+ghost use Rattle.script.specs.Parser.{sentence_of, program_of, machine_of, access_of, kept_of};
 
+use crate::fields::Field;
 use crate::forms::{Line, Request};
-use crate::numbers::read_number;
-use crate::words::{Words, is};
+use crate::words::Words;
 
 // How many bytes a line has at most.
 pub const LONGEST: usize = 256;
 
 // The line that the bytes write, if they write one. They have no line feed.
 pub fn read_line(bytes: &[u8]) -> Option<Line>
-    ensures { (l : Line) → (result ≡ Some l → Writes l bytes.now) × (Writes l bytes.now → result ≡ Some l) }
+    ensures sound { IfSome result (λ l. Writes l bytes.now) }
+    ensures complete { (l : Line) → Writes l bytes.now → result ≡ Some l }
 {
     if bytes.len() > LONGEST {
         return None;
@@ -23,211 +23,128 @@ pub fn read_line(bytes: &[u8]) -> Option<Line>
 }
 
 fn sentence(words: &mut Words) -> Option<Line>
-    ensures { result ≡ sentence_of (left words.old) }
+    ensures { result ≡ sentence_of words.old }
 {
-    let word = words.next()?;
-    match read_number(word) {
-        Some(who) => program_line(who.index(), words),
-        None => machine_line(word, words),
+    let head = words.next()?;
+    match u32::from_word(head) {
+        Some(who) => program_line(who, words),
+        None => machine_line(head, words),
     }
 }
 
 // What follows a program's number.
 fn program_line(who: u32, words: &mut Words) -> Option<Line>
-    ensures { result ≡ program_of who (left words.old) }
+    ensures { result ≡ program_of who words.old }
 {
-    let verb = words.next()?;
-    if is(verb, b"load") {
-        return load(who, words);
-    }
-    if is(verb, b"store") {
-        return store(who, words);
-    }
-    let request = request(verb, words)?;
+    let request = match words.next()? {
+        b"load" => {
+            return Some(Line::Load {
+                who,
+                v: words.parse()?,
+                word: words.parse_last()?,
+            });
+        }
+        b"store" => {
+            return Some(Line::Store {
+                who,
+                v: words.parse()?,
+                word: words.parse()?,
+                x: words.parse_last()?,
+            });
+        }
+        b"get" => Request::Get {
+            v: words.parse_last()?,
+        },
+        b"free" => Request::Free {
+            v: words.parse_last()?,
+        },
+        b"give" => Request::Give {
+            v: words.parse()?,
+            to: words.parse()?,
+            at: words.parse_last()?,
+        },
+        b"open" => Request::Open {
+            d: words.parse_last()?,
+        },
+        b"close" => Request::Close {
+            d: words.parse_last()?,
+        },
+        b"regs" => Request::Regs {
+            d: words.parse()?,
+            v: words.parse_last()?,
+        },
+        b"lend" => Request::Lend {
+            v: words.parse()?,
+            d: words.parse()?,
+            p: words.parse()?,
+            writes: words.parse_last()?,
+        },
+        b"recall" => Request::Recall {
+            v: words.parse_last()?,
+        },
+        b"end" => Request::End {
+            who: words.parse_last()?,
+        },
+        _ => return None,
+    };
     Some(Line::Call { who, request })
 }
 
-fn load(who: u32, words: &mut Words) -> Option<Line>
-    ensures { result ≡ load_of who (left words.old) }
-{
-    let v = words.index()?;
-    let word = words.last_index()?;
-    Some(Line::Load { who, v, word })
-}
-
-fn store(who: u32, words: &mut Words) -> Option<Line>
-    ensures { result ≡ store_of who (left words.old) }
-{
-    let v = words.index()?;
-    let word = words.index()?;
-    let x = words.last_exact()?;
-    Some(Line::Store { who, v, word, x })
-}
-
 // What follows a first word that is not a number.
+#[tactic(auto, using(crate::proofs::Others::other_length, crate::proofs::Others::other_first))]
 fn machine_line(head: &[u8], words: &mut Words) -> Option<Line>
-    ensures { result ≡ machine_of head.now (left words.old) }
+    ensures { result ≡ machine_of head.now words.old }
 {
-    if is(head, b"dev") {
-        return access(words);
+    match head {
+        b"dev" => access(words),
+        b"keep" => Some(Line::Keep {
+            d: words.parse()?,
+            p: words.parse_last()?,
+        }),
+        b"kept" => kept(words),
+        b"no" => Some(Line::Refuse {
+            n: words.parse_last()?,
+        }),
+        b"seed" => Some(Line::Seed {
+            s: words.parse_last()?,
+        }),
+        b"new" => words.next().is_none().then_some(Line::New),
+        _ => None,
     }
-    if is(head, b"keep") {
-        return keep(words);
-    }
-    if is(head, b"kept") {
-        return kept(words);
-    }
-    if is(head, b"no") {
-        return Some(Line::Refuse {
-            n: words.last_exact()?,
-        });
-    }
-    if is(head, b"seed") {
-        return Some(Line::Seed {
-            s: words.last_exact()?,
-        });
-    }
-    if is(head, b"new") && words.at_end() {
-        return Some(Line::New);
-    }
-    None
 }
 
 fn access(words: &mut Words) -> Option<Line>
-    ensures { result ≡ access_of (left words.old) }
+    ensures { result ≡ access_of words.old }
 {
-    let d = words.index()?;
-    let way = words.next()?;
-    if is(way, b"read") {
-        return read(d, words);
+    let d = words.parse()?;
+    match words.next()? {
+        b"read" => Some(Line::Read {
+            d,
+            p: words.parse()?,
+            word: words.parse_last()?,
+        }),
+        b"write" => Some(Line::Write {
+            d,
+            p: words.parse()?,
+            word: words.parse()?,
+            x: words.parse_last()?,
+        }),
+        _ => None,
     }
-    if is(way, b"write") {
-        return write(d, words);
-    }
-    None
-}
-
-fn read(d: u32, words: &mut Words) -> Option<Line>
-    ensures { result ≡ read_of d (left words.old) }
-{
-    let p = words.index()?;
-    let word = words.last_index()?;
-    Some(Line::Read { d, p, word })
-}
-
-fn write(d: u32, words: &mut Words) -> Option<Line>
-    ensures { result ≡ write_of d (left words.old) }
-{
-    let p = words.index()?;
-    let word = words.index()?;
-    let x = words.last_exact()?;
-    Some(Line::Write { d, p, word, x })
-}
-
-fn keep(words: &mut Words) -> Option<Line>
-    ensures { result ≡ keep_of (left words.old) }
-{
-    let d = words.index()?;
-    let p = words.last_index()?;
-    Some(Line::Keep { d, p })
 }
 
 fn kept(words: &mut Words) -> Option<Line>
-    ensures { result ≡ kept_of (left words.old) }
+    ensures { result ≡ kept_of words.old }
 {
-    let d = words.index()?;
-    let p = words.index()?;
-    let way = words.next()?;
-    if !is(way, b"write") {
-        return None;
+    let d = words.parse()?;
+    let p = words.parse()?;
+    match words.next()? {
+        b"write" => Some(Line::Kept {
+            d,
+            p,
+            word: words.parse()?,
+            x: words.parse_last()?,
+        }),
+        _ => None,
     }
-    let word = words.index()?;
-    let x = words.last_exact()?;
-    Some(Line::Kept { d, p, word, x })
-}
-
-// What follows a program's number and the verb of a call.
-fn request(verb: &[u8], words: &mut Words) -> Option<Request>
-    ensures { result ≡ request_of verb.now (left words.old) }
-{
-    if is(verb, b"give") {
-        return give(words);
-    }
-    if is(verb, b"regs") {
-        return regs(words);
-    }
-    if is(verb, b"lend") {
-        return lend(words);
-    }
-    let n = words.last_index()?;
-    simple(verb, n)
-}
-
-// The calls of one number.
-fn simple(verb: &[u8], n: u32) -> Option<Request>
-    ensures { result ≡ simple_of verb.now n }
-{
-    if is(verb, b"get") {
-        return Some(Request::Get { v: n });
-    }
-    if is(verb, b"free") {
-        return Some(Request::Free { v: n });
-    }
-    if is(verb, b"open") {
-        return Some(Request::Open { d: n });
-    }
-    if is(verb, b"close") {
-        return Some(Request::Close { d: n });
-    }
-    if is(verb, b"recall") {
-        return Some(Request::Recall { v: n });
-    }
-    if is(verb, b"end") {
-        return Some(Request::End { who: n });
-    }
-    None
-}
-
-fn give(words: &mut Words) -> Option<Request>
-    ensures { result ≡ give_of (left words.old) }
-{
-    let v = words.index()?;
-    let to = words.index()?;
-    let at = words.last_index()?;
-    Some(Request::Give { v, to, at })
-}
-
-fn regs(words: &mut Words) -> Option<Request>
-    ensures { result ≡ regs_of (left words.old) }
-{
-    let d = words.index()?;
-    let v = words.last_index()?;
-    Some(Request::Regs { d, v })
-}
-
-fn lend(words: &mut Words) -> Option<Request>
-    ensures { result ≡ lend_of (left words.old) }
-{
-    let v = words.index()?;
-    let d = words.index()?;
-    let p = words.index()?;
-    let writes = mode(words.next()?)?;
-    if words.at_end() {
-        Some(Request::Lend { v, d, p, writes })
-    } else {
-        None
-    }
-}
-
-// Whether a page is lent to be written.
-fn mode(word: &[u8]) -> Option<bool>
-    ensures { result ≡ mode_of word.now }
-{
-    if is(word, b"w") {
-        return Some(true);
-    }
-    if is(word, b"r") {
-        return Some(false);
-    }
-    None
 }

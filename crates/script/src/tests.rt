@@ -1,5 +1,7 @@
 // Examples of every form, good and bad: a script, and what each of its lines is.
 use crate::*;
+use arrayvec::ArrayString;
+use std::fmt::Write;
 use std::test::Fail;
 
 const SAMPLES: &[u8] = b"\
@@ -245,5 +247,20 @@ fn texts(rt: HostRuntime) -> Result<(), Fail> {
         assert_eq!(rt; &text[0..len], lines.line());
     }
     assert_eq!(rt; lines.advance()?, None);
+    Ok(())
+}
+
+#[test]
+fn displayed_texts(rt: HostRuntime) -> Result<(), Fail> {
+    let outcomes = [
+        (Outcome::Done, "done"),
+        (Outcome::Took(u64::MAX), "took 18446744073709551615"),
+        (Outcome::BadLine(10), "line 10?"),
+    ];
+    for (outcome, text) in outcomes {
+        let mut shown = ArrayString::<32>::new();
+        write!(shown, "{outcome}")?;
+        assert_eq!(rt; shown.as_str(), text);
+    }
     Ok(())
 }

@@ -1,105 +1,78 @@
 // The words of a line, one by one.
-ghost use Rattle.std.specs.Prelude.{◌≡◌, ℕ, ◌<◌, ◌≤◌, [], ◌∷◌, length, MatchOption, ◌≢◌, slice_index};
-ghost use Rattle.std.specs.Str.{bytes_eq};
-ghost use Rattle.script.specs.Decimal.{index_of, exact_of};
-ghost use Rattle.script.specs.Left.{left};
-ghost use Rattle.script.specs.Parts.{first, later, at_end, last_of};
+ghost use Rattle.std.specs.Prelude.{◌≡◌, [], ◌∷◌, ◌==◌, MatchOption};
+ghost use Rattle.std.specs.Iterator.{YieldsFirstRef, item_count};
+ghost use Rattle.std.specs.List.{position};
+ghost use Rattle.script.specs.Parts.{first, later, last_of};
 ghost use Rattle.script.specs.Spaces.{words_of};
 
-use crate::numbers::read_number;
+use crate::fields::Field;
+use std::marker::Model;
 
-// A line from which words are taken, from the left.
+// A line from which words are taken, from the left. After the last word nothing is left, not even an empty rest.
+// `slice::split` is no plainer here: each function that reads words would have to name its closure's type.
 #[derive(Drop)]
 pub struct Words<'a> {
-    rest: &'a [u8],
-    finished: bool,
+    rest: Option<&'a [u8]>,
+}
+
+// The words that are left.
+impl<'a> Model for Words<'a> {
+    ghost use Rattle.std.specs.Prelude.{ℕ, List};
+    ghost use Rattle.script.specs.Left.{left};
+
+    ghost Value = { List (List ℕ) };
+
+    ghost view = { λ w. left w.rest };
 }
 
 impl<'a> Words<'a> {
     pub fn new(line: &'a [u8]) -> Words<'a>
-        ensures { left result ≡ words_of line.now }
+        ensures { result ≡ words_of line.now }
     {
-        Words {
-            rest: line,
-            finished: false,
-        }
+        Words { rest: Some(line) }
     }
 
-    // The next word. After the last there is none.
-    pub fn next(&mut self) -> Option<&'a [u8]>
-        ensures { MatchOption result ((left self.old ≡ []) × (left self.new ≡ [])) (λ w. left self.old ≡ w.now ∷ left self.new) }
+    // The next word, read as T.
+    pub fn parse<T: Field>(&mut self) -> Option<T>
+        ensures value { result ≡ first T.of_word self.old }
+        ensures rest { self.new ≡ later self.old }
     {
-        if self.finished {
-            return None;
-        }
-        let rest = self.rest;
-        let end = first_space(rest);
-        if end == rest.len() {
-            self.finished = true;
-            return Some(rest);
-        }
-        self.rest = &rest[end + 1..];
-        Some(&rest[0..end])
-    }
-
-    pub fn at_end(&self) -> bool
-        ensures { result ≡ at_end (left self.now) }
-    {
-        self.finished
-    }
-
-    // The next word as a number, or 2^32 - 1 where it is larger.
-    pub fn index(&mut self) -> Option<u32>
-        ensures value { result ≡ first index_of (left self.old) }
-        ensures rest { left self.new ≡ later (left self.old) }
-    {
-        let word = self.next()?;
-        let number = read_number(word)?;
-        Some(number.index())
-    }
-
-    // The next word as a number below 2^64.
-    pub fn exact(&mut self) -> Option<u64>
-        ensures value { result ≡ first exact_of (left self.old) }
-        ensures rest { left self.new ≡ later (left self.old) }
-    {
-        let word = self.next()?;
-        let number = read_number(word)?;
-        number.exact()
+        T::from_word(self.next()?)
     }
 
     // The same of a word that has to be the last.
-    pub fn last_index(&mut self) -> Option<u32>
-        ensures { result ≡ last_of index_of (left self.old) }
+    pub fn parse_last<T: Field + Drop>(&mut self) -> Option<T>
+        ensures { result ≡ last_of T.of_word self.old }
     {
-        let n = self.index()?;
-        if self.at_end() { Some(n) } else { None }
-    }
-
-    pub fn last_exact(&mut self) -> Option<u64>
-        ensures { result ≡ last_of exact_of (left self.old) }
-    {
-        let n = self.exact()?;
-        if self.at_end() { Some(n) } else { None }
+        let field = self.parse()?;
+        self.next().is_none().then_some(field)
     }
 }
 
-// Where the first space is, or the length where there is none.
-fn first_space(s: &[u8]) -> usize
-    ensures within { result ≤ length s.now }
-    ensures before { (k : ℕ) → k < result → slice_index s.now k ≢ 32 }
-    ensures found { result < length s.now → slice_index s.now result ≡ 32 }
-{
-    for (i, b) in s.iter().enumerate() {
-        if *b == b' ' {
-            return i;
+impl<'a> Iterator for Words<'a> {
+    type Item = &'a [u8];
+
+    ghost next_gives = { YieldsFirstRef (λ ws. ws) };
+
+    ghost remaining = { item_count (λ ws. ws) };
+
+    fn next(&mut self) -> Option<&'a [u8]> {
+        let rest = self.rest?;
+        match first_space(rest) {
+            Some(at) => {
+                self.rest = Some(&rest[at + 1..]);
+                Some(&rest[..at])
+            }
+            None => {
+                self.rest = None;
+                Some(rest)
+            }
         }
     }
-    s.len()
 }
 
-pub fn is(word: &[u8], text: &[u8]) -> bool
-    ensures { result ≡ bytes_eq word.now text.now }
+fn first_space(s: &[u8]) -> Option<usize>
+    ensures { result ≡ position (λ c. c == 32) s.now }
 {
-    word == text
+    s.iter().position(|b| *b == b' ')
 }

@@ -2,14 +2,11 @@
 use Rattle.std.proofs.Common.{◌≡◌, ℕ, zero, suc, ◌+◌, ◌-◌, ◌*◌, ◌/◌, ◌%◌, ◌<◌, Bool, true, false, cond, List, ◌∷◌, length, set, sym, refl, ap, ◌∙◌, subst, arith}
 use mathlib.Core.Path.{fun_ext}
 use Rattle.std.proofs.lemmas.Bool.{cond-true}
-use Rattle.house.specs.Event.{Event, PutInto}
-use Rattle.house.specs.Machine.{Hw, frame_in, may_write, with_mem, put, walked, upper, lower}
-use Rattle.simulator.specs.declared.rows.Note.{Note}
+use Rattle.house.specs.Machine.{Hw, with_mem, put, walked, upper, lower}
+use Rattle.simulator.specs.declared.events.Event.{Event as Note}
 use Rattle.simulator.specs.Notes.{event_of}
 use Rattle.simulator.specs.Store.{mem_of, space_of}
 use Rattle.simulator.specs.Parts.{Parts, hw_of, seen_of, noted}
-use Rattle.simulator.specs.Effects.{PutAt}
-use Rattle.simulator.proofs.Tricks.{truly}
 use Rattle.simulator.proofs.Asked.{written}
 use Rattle.simulator.proofs.Words.{mem_set}
 
@@ -18,18 +15,18 @@ pub mem_path : (p : Parts) (fr : ℕ) (ws : List ℕ) (f k x : ℕ) → length p
     hw_of (written fr ws p.left p) ≡ with_mem (put f k x (mem_of p.mem)) (hw_of p)
 mem_path p fr ws f k x len lf lk ef ew =
     let m : mem_of ws ≡ put f k x (mem_of p.mem) = subst (λ (us : List ℕ). mem_of us ≡ put f k x (mem_of p.mem)) (sym ew) (fun_ext (λ g. fun_ext (λ j. mem_set p.mem p.frames f k x len lf lk g j))) in
-    λ t. record { frames = ef t; devices = length p.devices; group = (hw_of p).group; driver = (hw_of p).driver; mem = m t; space = space_of (ef t) p.space; live = p.live; ups = (hw_of p).ups; mids = (hw_of p).mids; leaves = (hw_of p).leaves; flying = (hw_of p).flying; left = p.left }
+    λ t. record { frames = ef t; devices = length p.devices; group = (hw_of p).group; driver = (hw_of p).driver; mem = m t; space = space_of p.space; live = p.live; ups = (hw_of p).ups; mids = (hw_of p).mids; leaves = (hw_of p).leaves; flying = (hw_of p).flying; left = p.left }
 
 -- noted first, and then written
-pub noted_written : (p b : Parts) (n : Note) (e : Event) (fr : ℕ) (ws : List ℕ) (f k x : ℕ) → b ≡ noted (n ∷ p.notes) p → event_of n ≡ e → length p.mem ≡ 512 * p.frames → f < p.frames → k < 512 → fr ≡ b.frames →
-    ws ≡ set b.mem (512 * f + k) x → (hw_of (written fr ws b.left b) ≡ with_mem (put f k x (mem_of p.mem)) (hw_of p)) × (seen_of (written fr ws b.left b) ≡ e ∷ seen_of p)
-noted_written p b n e fr ws f k x eb ee len lf lk ef ew = subst P (sym eb) base ef ew
+pub noted_written : (p b : Parts) (n : Note) (fr : ℕ) (ws : List ℕ) (f k x : ℕ) → b ≡ noted (n ∷ p.notes) p → length p.mem ≡ 512 * p.frames → f < p.frames → k < 512 → fr ≡ b.frames →
+    ws ≡ set b.mem (512 * f + k) x → (hw_of (written fr ws b.left b) ≡ with_mem (put f k x (mem_of p.mem)) (hw_of p)) × (seen_of (written fr ws b.left b) ≡ event_of n ∷ seen_of p)
+noted_written p b n fr ws f k x eb len lf lk ef ew = subst P (sym eb) base ef ew
   where
     P : Parts → Type 0
-    P c = fr ≡ c.frames → ws ≡ set c.mem (512 * f + k) x → (hw_of (written fr ws c.left c) ≡ with_mem (put f k x (mem_of p.mem)) (hw_of p)) × (seen_of (written fr ws c.left c) ≡ e ∷ seen_of p)
+    P c = fr ≡ c.frames → ws ≡ set c.mem (512 * f + k) x → (hw_of (written fr ws c.left c) ≡ with_mem (put f k x (mem_of p.mem)) (hw_of p)) × (seen_of (written fr ws c.left c) ≡ event_of n ∷ seen_of p)
 
     base : P (noted (n ∷ p.notes) p)
-    base a c = (mem_path p fr ws f k x len lf lk a c, ap (λ y. y ∷ seen_of p) ee)
+    base a c = (mem_path p fr ws f k x len lf lk a c, λ t. event_of n ∷ seen_of p)
 
 -- what the tables say, along the way
 pub walk_none : (h : Hw) (d p : ℕ) → h.mem 0 d ≡ 0 → 0 ≡ walked h d p
@@ -61,10 +58,3 @@ walk_whole h d p (suc t) (suc s) v e l f m =
     let b : suc s - 1 ≡ s = omega arith in
     let g : h.mem t (p / 512) ≡ suc s = subst (λ u. h.mem u (p / 512) ≡ suc s) a f in
     sym (cond-true h.live (upper (h.mem 0 d) d p h) 0 v ∙ (ap (λ w. upper w d p h) e ∙ (ap (λ w. lower w d p h) g ∙ ap (λ u. h.mem u (p % 512)) (sym b))))
-
--- a write by an entry, as code leaves it: f is the entry's frame
-pub put_done : (p b : Parts) (n : Note) (d g en fr : ℕ) (ws : List ℕ) (f k x : ℕ) (r : Bool) → r ≡ may_write en → r ≡ true → f ≡ frame_in en → b ≡ noted (n ∷ p.notes) p → event_of n ≡ PutInto d g f k x → length p.mem ≡ 512 * p.frames →
-    f < p.frames → k < 512 → fr ≡ b.frames → ws ≡ set b.mem (512 * f + k) x → PutAt p d g en k x true (written fr ws b.left b)
-put_done p b n d g en fr ws f k x r er et ef eb ee len lf lk efr ew =
-    let z = noted_written p b n (PutInto d g f k x) fr ws f k x eb ee len lf lk efr ew in
-    (truly (sym er ∙ et), subst (λ u. hw_of (written fr ws b.left b) ≡ with_mem (put u k x (mem_of p.mem)) (hw_of p)) ef z.0, subst (λ u. seen_of (written fr ws b.left b) ≡ PutInto d g u k x ∷ seen_of p) ef z.1)

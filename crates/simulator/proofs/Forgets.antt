@@ -1,106 +1,85 @@
 -- Forgetting all of a device is a row of single steps, and leaves nothing of it.
-use Rattle.std.proofs.Common.{◌≡◌, ℕ, Bool, true, false, cond, not, ◌&&◌, T, eqb, ◌⊎◌, List, [], ◌∷◌, ◌++◌, map, length, sym, refl, ap, ◌∙◌, subst, inl, inr, append_assoc, arith}
+use Rattle.std.proofs.Common.{◌≡◌, ℕ, Bool, true, false, cond, not, ◌&&◌, T, eqb, ◌⊎◌, List, [], ◌∷◌, ◌++◌, map, length, sym, refl, ap, ◌∙◌, subst, inl, inr, append_assoc}
 use Rattle.std.proofs.lemmas.Bool.{cases_Bool, cond-true, cond-false}
 use Rattle.house.specs.Event.{Event, Drained}
 use Rattle.house.specs.Machine.{Hw, Step, Steps, none, more, known, drop_one, less_up, less_mid, less_leaf, fails, no_up, no_mid, no_leaf, Forgotten, counted, Drains, yes', not_yet, takes, puts, misses, up, mid, leaf, flies}
-use Rattle.simulator.specs.Lists.{without, device_in}
+use Rattle.simulator.specs.declared.cached.LowerTable.{LowerTable}
+use Rattle.simulator.specs.declared.cached.PageEntry.{PageEntry}
+use Rattle.simulator.specs.declared.cached.UpperTable.{UpperTable}
+use Rattle.simulator.specs.Kept.{without}
 use Rattle.simulator.specs.Parts.{Parts, hw_of, seen_of, Goes, up_of, mid_of, leaf_of}
 use Rattle.simulator.proofs.Asked.{steps_then}
-
-drop_mid : {A : Type 0} (pre : List A) (x : A) (xs : List A) → drop_one (length pre) (pre ++ x ∷ xs) ≡ pre ++ xs
-unfolding drop_one
-drop_mid [] x xs = refl
-drop_mid (y ∷ pre) x xs = ap (λ ys. y ∷ ys) (drop_mid pre x xs)
+use Rattle.simulator.proofs.Listed.{drop_mid}
 
 -- any list from which single ones can be dropped
-module _ {A : Type 0} (f : ℕ → A) (at : List A → Hw) (es : List Event) (less : (xs : List A) (n : ℕ) → Steps (at xs) es (at (drop_one n xs)) es) (d : ℕ) where
-  sieve_from : (pre : List A) (ws : List ℕ) → Steps (at (pre ++ map f ws)) es (at (pre ++ map f (without d ws))) es
-  unfolding without
+module _ {A W : Type 0} (f : W → A) (dev : W → ℕ) (at : List A → Hw) (es : List Event) (less : (xs : List A) (n : ℕ) → Steps (at xs) es (at (drop_one n xs)) es) (d : ℕ) where
+  sieve_from : (pre : List A) (ws : List W) → Steps (at (pre ++ map f ws)) es (at (pre ++ map f (without dev d ws))) es
   sieve_from pre [] = none _ es
-  sieve_from pre (w ∷ ws) = go (cases_Bool (eqb d (device_in w))) (λ qs. sieve_from qs ws)
+  sieve_from pre (w ∷ ws) = go (cases_Bool (not (eqb d (dev w)))) (λ qs. sieve_from qs ws)
     where
-      P : List ℕ → Type 0
+      P : List W → Type 0
       P vs = Steps (at (pre ++ (f w ∷ map f ws))) es (at (pre ++ map f vs)) es
 
-      go : (eqb d (device_in w) ≡ true) ⊎ (eqb d (device_in w) ≡ false) → ((qs : List A) → Steps (at (qs ++ map f ws)) es (at (qs ++ map f (without d ws))) es) → P (cond (eqb d (device_in w)) (without d ws) (w ∷ without d ws))
-      go (inl e) r =
-          subst P (sym (cond-true (eqb d (device_in w)) (without d ws) (w ∷ without d ws) e))
-          (steps_then (subst (λ (xs : List A). Steps (at (pre ++ (f w ∷ map f ws))) es (at xs) es) (drop_mid pre (f w) (map f ws)) (less (pre ++ (f w ∷ map f ws)) (length pre))) (r pre))
+      go : (not (eqb d (dev w)) ≡ true) ⊎ (not (eqb d (dev w)) ≡ false) → ((qs : List A) → Steps (at (qs ++ map f ws)) es (at (qs ++ map f (without dev d ws))) es) → P (cond (not (eqb d (dev w))) (w ∷ without dev d ws) (without dev d ws))
       go (inr e) r =
-          subst P (sym (cond-false (eqb d (device_in w)) (without d ws) (w ∷ without d ws) e))
-          (subst (λ (xs : List A). Steps (at xs) es (at (pre ++ (f w ∷ map f (without d ws)))) es) (append_assoc pre (f w ∷ []) (map f ws))
-          (subst (λ (xs : List A). Steps (at ((pre ++ (f w ∷ [])) ++ map f ws)) es (at xs) es) (append_assoc pre (f w ∷ []) (map f (without d ws))) (r (pre ++ (f w ∷ [])))))
+          subst P (sym (cond-false (not (eqb d (dev w))) (w ∷ without dev d ws) (without dev d ws) e))
+          (steps_then (subst (λ (xs : List A). Steps (at (pre ++ (f w ∷ map f ws))) es (at xs) es) (drop_mid pre (f w) (map f ws)) (less (pre ++ (f w ∷ map f ws)) (length pre))) (r pre))
+      go (inl e) r =
+          subst P (sym (cond-true (not (eqb d (dev w))) (w ∷ without dev d ws) (without dev d ws) e))
+          (subst (λ (xs : List A). Steps (at xs) es (at (pre ++ (f w ∷ map f (without dev d ws)))) es) (append_assoc pre (f w ∷ []) (map f ws))
+          (subst (λ (xs : List A). Steps (at ((pre ++ (f w ∷ [])) ++ map f ws)) es (at xs) es) (append_assoc pre (f w ∷ []) (map f (without dev d ws))) (r (pre ++ (f w ∷ [])))))
 
-  sieve : (ws : List ℕ) → Steps (at (map f ws)) es (at (map f (without d ws))) es
+  sieve : (ws : List W) → Steps (at (map f ws)) es (at (map f (without dev d ws))) es
   sieve ws = sieve_from [] ws
 
+abbrev up_device : UpperTable → ℕ
+up_device u = u.device
+
+abbrev mid_device : LowerTable → ℕ
+mid_device l = l.device
+
+abbrev leaf_device : PageEntry → ℕ
+leaf_device e = e.device
+
 -- the parts with other lists
-abbrev pub keeping : List ℕ → List ℕ → List ℕ → List ℕ → Parts → Parts
+abbrev pub keeping : List UpperTable → List LowerTable → List PageEntry → List PageEntry → Parts → Parts
 keeping a b c d p =
     record { frames = p.frames; devices = p.devices; mem = p.mem; space = p.space; live = p.live; ups = a; mids = b; leaves = c; flying = d; left = p.left; notes = p.notes }
 
-pub forget_goes : (d : ℕ) (p : Parts) → Goes p (keeping (without d p.ups) (without d p.mids) (without d p.leaves) (without d p.flying) p)
+pub forget_goes : (d : ℕ) (p : Parts) → Goes p (keeping (without up_device d p.ups) (without mid_device d p.mids) (without leaf_device d p.leaves) (without leaf_device d p.flying) p)
 forget_goes d p =
     let h = hw_of p in
     let es = seen_of p in
-    steps_then (sieve up_of (λ xs. known xs h.mids h.leaves h.flying h) es (λ xs n. more (less_up (known xs h.mids h.leaves h.flying h) n) (none _ es)) d p.ups)
-    (steps_then (sieve mid_of (λ xs. known (map up_of (without d p.ups)) xs h.leaves h.flying h) es (λ xs n. more (less_mid (known (map up_of (without d p.ups)) xs h.leaves h.flying h) n) (none _ es)) d p.mids)
-    (steps_then (sieve leaf_of (λ xs. known (map up_of (without d p.ups)) (map mid_of (without d p.mids)) xs h.flying h) es (λ xs n. more (less_leaf (known (map up_of (without d p.ups)) (map mid_of (without d p.mids)) xs h.flying h) n) (none _ es)) d p.leaves)
-    (sieve leaf_of (λ xs. known (map up_of (without d p.ups)) (map mid_of (without d p.mids)) (map leaf_of (without d p.leaves)) xs h) es (λ xs n. more (fails (known (map up_of (without d p.ups)) (map mid_of (without d p.mids)) (map leaf_of (without d p.leaves)) xs h) n) (none _ es)) d p.flying)))
+    steps_then (sieve up_of up_device (λ xs. known xs h.mids h.leaves h.flying h) es (λ xs n. more (less_up (known xs h.mids h.leaves h.flying h) n) (none _ es)) d p.ups)
+    (steps_then (sieve mid_of mid_device (λ xs. known (map up_of (without up_device d p.ups)) xs h.leaves h.flying h) es (λ xs n. more (less_mid (known (map up_of (without up_device d p.ups)) xs h.leaves h.flying h) n) (none _ es)) d p.mids)
+    (steps_then (sieve leaf_of leaf_device (λ xs. known (map up_of (without up_device d p.ups)) (map mid_of (without mid_device d p.mids)) xs h.flying h) es (λ xs n. more (less_leaf (known (map up_of (without up_device d p.ups)) (map mid_of (without mid_device d p.mids)) xs h.flying h) n) (none _ es)) d p.leaves)
+    (sieve leaf_of leaf_device (λ xs. known (map up_of (without up_device d p.ups)) (map mid_of (without mid_device d p.mids)) (map leaf_of (without leaf_device d p.leaves)) xs h) es (λ xs n. more (fails (known (map up_of (without up_device d p.ups)) (map mid_of (without mid_device d p.mids)) (map leaf_of (without leaf_device d p.leaves)) xs h) n) (none _ es)) d p.flying)))
 
--- nothing of d is left
+-- nothing of d is left: a test that nothing is of d passes what was sifted
+module _ {A W : Type 0} (f : W → A) (dev : W → ℕ) (d : ℕ) (clear : List A → Bool) (start : T (clear [])) (more : (w : W) (xs : List A) → T (not (eqb d (dev w))) → T (clear xs) → T (clear (f w ∷ xs))) where
+  gone : (ws : List W) → T (clear (map f (without dev d ws)))
+  gone [] = start
+  gone (w ∷ ws) = go (not (eqb d (dev w))) refl (gone ws)
+    where
+      go : (b : Bool) → not (eqb d (dev w)) ≡ b → T (clear (map f (without dev d ws))) → T (clear (map f (cond b (w ∷ without dev d ws) (without dev d ws))))
+      go true e r = more w (map f (without dev d ws)) (subst T (sym e) tt) r
+      go false e r = r
+
 both : (a b : Bool) → T a → T b → T (a && b)
 both true b x y = y
 both false b x y = x
 
-apart : (b : Bool) → b ≡ false → T (not b)
-apart true e = absurd (let z : ◌≡◌ {A = ℕ} 0 1 = cc in omega arith)
-apart false e = tt
-
-up_gone : (d : ℕ) (ws : List ℕ) → T (no_up d (map up_of (without d ws)))
-unfolding without no_up
-up_gone d [] = tt
-up_gone d (w ∷ ws) = go (cases_Bool (eqb d (device_in w))) (up_gone d ws)
-  where
-    P : List ℕ → Type 0
-    P vs = T (no_up d (map up_of vs))
-
-    go : (eqb d (device_in w) ≡ true) ⊎ (eqb d (device_in w) ≡ false) → T (no_up d (map up_of (without d ws))) → P (cond (eqb d (device_in w)) (without d ws) (w ∷ without d ws))
-    go (inl e) r = subst P (sym (cond-true (eqb d (device_in w)) (without d ws) (w ∷ without d ws) e)) r
-    go (inr e) r =
-        subst P (sym (cond-false (eqb d (device_in w)) (without d ws) (w ∷ without d ws) e)) (both (not (eqb d (device_in w))) (no_up d (map up_of (without d ws))) (apart (eqb d (device_in w)) e) r)
-
-mid_gone : (d : ℕ) (ws : List ℕ) → T (no_mid d (map mid_of (without d ws)))
-unfolding without no_mid
-mid_gone d [] = tt
-mid_gone d (w ∷ ws) = go (cases_Bool (eqb d (device_in w))) (mid_gone d ws)
-  where
-    P : List ℕ → Type 0
-    P vs = T (no_mid d (map mid_of vs))
-
-    go : (eqb d (device_in w) ≡ true) ⊎ (eqb d (device_in w) ≡ false) → T (no_mid d (map mid_of (without d ws))) → P (cond (eqb d (device_in w)) (without d ws) (w ∷ without d ws))
-    go (inl e) r = subst P (sym (cond-true (eqb d (device_in w)) (without d ws) (w ∷ without d ws) e)) r
-    go (inr e) r =
-        subst P (sym (cond-false (eqb d (device_in w)) (without d ws) (w ∷ without d ws) e)) (both (not (eqb d (device_in w))) (no_mid d (map mid_of (without d ws))) (apart (eqb d (device_in w)) e) r)
-
-leaf_gone : (d : ℕ) (ws : List ℕ) → T (no_leaf d (map leaf_of (without d ws)))
-unfolding without no_leaf
-leaf_gone d [] = tt
-leaf_gone d (w ∷ ws) = go (cases_Bool (eqb d (device_in w))) (leaf_gone d ws)
-  where
-    P : List ℕ → Type 0
-    P vs = T (no_leaf d (map leaf_of vs))
-
-    go : (eqb d (device_in w) ≡ true) ⊎ (eqb d (device_in w) ≡ false) → T (no_leaf d (map leaf_of (without d ws))) → P (cond (eqb d (device_in w)) (without d ws) (w ∷ without d ws))
-    go (inl e) r = subst P (sym (cond-true (eqb d (device_in w)) (without d ws) (w ∷ without d ws) e)) r
-    go (inr e) r =
-        subst P (sym (cond-false (eqb d (device_in w)) (without d ws) (w ∷ without d ws) e)) (both (not (eqb d (device_in w))) (no_leaf d (map leaf_of (without d ws))) (apart (eqb d (device_in w)) e) r)
-
-pub forget_forgets : (d : ℕ) (p : Parts) → Forgotten d (hw_of (keeping (without d p.ups) (without d p.mids) (without d p.leaves) (without d p.flying) p))
-forget_forgets d p = (up_gone d p.ups, mid_gone d p.mids, leaf_gone d p.leaves, leaf_gone d p.flying)
+pub forget_forgets : (d : ℕ) (p : Parts) → Forgotten d (hw_of (keeping (without up_device d p.ups) (without mid_device d p.mids) (without leaf_device d p.leaves) (without leaf_device d p.flying) p))
+unfolding no_up no_mid no_leaf
+forget_forgets d p = (
+  gone up_of up_device d (no_up d) tt (λ w xs. both (not (eqb d w.device)) (no_up d xs)) p.ups,
+  gone mid_of mid_device d (no_mid d) tt (λ w xs. both (not (eqb d w.device)) (no_mid d xs)) p.mids,
+  gone leaf_of leaf_device d (no_leaf d) tt (λ w xs. both (not (eqb d w.device)) (no_leaf d xs)) p.leaves,
+  gone leaf_of leaf_device d (no_leaf d) tt (λ w xs. both (not (eqb d w.device)) (no_leaf d xs)) p.flying,
+)
 
 -- the four lists, each as a call left it
-pub keeping_as : (p : Parts) (a a' b b' c c' d d' : List ℕ) → a ≡ a' → b ≡ b' → c ≡ c' → d ≡ d' → keeping a b c d p ≡ keeping a' b' c' d' p
+pub keeping_as : (p : Parts) (a a' : List UpperTable) (b b' : List LowerTable) (c c' d d' : List PageEntry) → a ≡ a' → b ≡ b' → c ≡ c' → d ≡ d' → keeping a b c d p ≡ keeping a' b' c' d' p
 keeping_as p a a' b b' c c' d d' e f g h = λ t. keeping (e t) (f t) (g t) (h t) p
 
 -- steps leave how often the machine may still be asked
@@ -125,7 +104,7 @@ pub steps_at : {h i j k : Hw} {es fs gs hs : List Event} → h ≡ i → es ≡ 
 steps_at {h} {i} {j} {k} {es} {fs} {gs} {hs} a b c d s =
     subst (λ (x : Hw). Steps x fs k hs) a (subst (λ (x : List Event). Steps h x k hs) b (subst (λ (x : Hw). Steps h es x hs) c (subst (λ (x : List Event). Steps h es j x) d s)))
 
-pub forgot_all : (d : ℕ) (p : Parts) (a b c e : List ℕ) → a ≡ without d p.ups → b ≡ without d p.mids → c ≡ without d p.leaves → e ≡ without d p.flying →
+pub forgot_all : (d : ℕ) (p : Parts) (a : List UpperTable) (b : List LowerTable) (c e : List PageEntry) → a ≡ without up_device d p.ups → b ≡ without mid_device d p.mids → c ≡ without leaf_device d p.leaves → e ≡ without leaf_device d p.flying →
     Goes p (keeping a b c e p) × Forgotten d (hw_of (keeping a b c e p))
 forgot_all d p a b c e f g h i =
     let k = keeping_as p _ a _ b _ c _ e (sym f) (sym g) (sym h) (sym i) in

@@ -1,6 +1,7 @@
 mod Accesses
 mod Asked
-mod Devices
+mod DeviceLines
+mod Fits
 mod Forgets
 mod Lines
 mod Listed

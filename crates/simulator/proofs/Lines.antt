@@ -1,19 +1,28 @@
 -- What lines of a script do: programs run, and what is heard of it.
-use Rattle.std.proofs.Common.{◌≡◌, ℕ, ◌+◌, ◌*◌, ◌<◌, List, ◌∷◌, map, length, set, Some, Option, sym, ap, ◌∙◌, subst}
+use Rattle.std.proofs.Common.{◌≡◌, ℕ, ◌+◌, ◌*◌, ◌<◌, ◌∷◌, ◌⊎◌, inl, inr, List, length, set, map, Some, Option, Result, Ok, Err, IsErr, sym, ap, refl, subst}
+use Rattle.std.proofs.lemmas.Bool.{false≢true}
 use Rattle.house.specs.declared.Call.{Call}
-use Rattle.house.specs.Event.{Event, Asked, Loaded, Stored, Faulted, Poked}
-use Rattle.house.specs.Machine.{Hw, Shown, Nothing, Frame, Registers, Steps, none, more, Runs, rest, device, loads, stores, pokes, faults, with_mem, put, Comes, comes, over, allowed}
-use Rattle.script.specs.declared.forms.Line.TheVariants as line
+use Rattle.house.specs.Event.{Event, Loaded}
+use Rattle.house.specs.Machine.{Hw, Steps, none, more, Runs, rest, device, loads, stores, pokes, faults, Comes, comes, over, allowed, Nothing, Frame, Registers, with_mem, put}
 use Rattle.script.specs.declared.forms.Line.{Line}
+use Rattle.script.specs.declared.forms.Line.TheVariants as line
 use Rattle.script.specs.declared.outcomes.Outcome.{Outcome}
 use Rattle.script.specs.declared.outcomes.Outcome.TheVariants as say
-use Rattle.simulator.specs.declared.rows.Note.{Note}
+use Rattle.simulator.specs.declared.events.Event.{Event as Note}
+use Rattle.simulator.specs.declared.events.Event.TheVariants as note
+use Rattle.simulator.specs.declared.refused.Refused.{Refused}
+use Rattle.simulator.specs.declared.refused.Refused.TheVariants.{OutOfRange, NoRoom, NoFrame, ReadOnly}
+use Rattle.simulator.specs.declared.replies.Reply.{Reply}
+use Rattle.simulator.specs.declared.replies.Reply.TheVariants.{Says, Quiet}
+use Rattle.simulator.specs.declared.sim.Ended.{Ended}
+use Rattle.simulator.specs.Turns.{Turned}
 use Rattle.simulator.specs.Notes.{event_of}
 use Rattle.simulator.specs.Store.{mem_of, space_of}
 use Rattle.simulator.specs.Parts.{Parts, hw_of, seen_of, Goes, Ran, noted}
 use Rattle.simulator.specs.Effects.{Same}
+use Rattle.simulator.specs.Refusals.{refusal_of}
 use Rattle.simulator.specs.Heard as heard
-use Rattle.simulator.specs.Heard.{Heard, outcome_of}
+use Rattle.simulator.specs.Heard.{Heard, Replied, reply_of, said_of}
 use Rattle.simulator.proofs.Asked.{written}
 use Rattle.simulator.proofs.Accesses.{noted_written}
 
@@ -39,64 +48,80 @@ same_ran p q s = subst (λ (h : Hw). Runs (hw_of p) (seen_of p) h (seen_of q)) (
 pub heard_at : {es fs gs : List Event} {l : Line} {o : Outcome} → fs ≡ gs → Heard es l o gs → Heard es l o fs
 heard_at {es} {fs} {gs} {l} {o} e h = subst (λ (x : List Event). Heard es l o x) (sym e) h
 
--- one event noted, the hardware being h then
-abbrev pub Noting : Parts → Parts → Note → Type 0
-Noting p q n = q ≡ noted (n ∷ p.notes) p
+-- what a line comes to
+abbrev pub Plays : Parts → Line → Outcome → Parts → Type 0
+Plays p l o q = Ran p q × Heard (seen_of p) l o (seen_of q)
 
-seen_is : (p q : Parts) (n : Note) (e : Event) → Noting p q n → event_of n ≡ e → seen_of q ≡ e ∷ seen_of p
-seen_is p q n e a b = ap seen_of a ∙ ap (λ x. x ∷ seen_of p) b
+-- refused: nothing happened
+pub refused_line : (p q : Parts) (l : Line) (e : Refused) → Same p q → Plays p l (refusal_of e) q
+refused_line p q l OutOfRange s = (same_ran p q s, heard_at s.1 (heard.beyond l))
+refused_line p q l NoRoom s = (same_ran p q s, heard_at s.1 (heard.full l))
+refused_line p q l NoFrame s = (same_ran p q s, heard_at s.1 (heard.full l))
+refused_line p q l ReadOnly s = (same_ran p q s, heard_at s.1 (heard.full l))
 
-ran_to : (p q : Parts) (n : Note) (e : Event) → Noting p q n → event_of n ≡ e → Runs (hw_of p) (seen_of p) (hw_of p) (e ∷ seen_of p) → Ran p q
-ran_to p q n e a b r =
-    subst (λ (h : Hw). Runs (hw_of p) (seen_of p) h (seen_of q)) (sym (ap hw_of a)) (subst (λ (es : List Event). Runs (hw_of p) (seen_of p) (hw_of p) es) (sym (seen_is p q n e a b)) r)
+pub refused_at : (p q : Parts) (l : Line) (r : Result Outcome Refused) → IsErr r → Same p q → Plays p l (said_of r) q
+refused_at p q l (Ok o) h s = absurd (false≢true h)
+refused_at p q l (Err e) h s = refused_line p q l e s
 
--- not noted: nothing happened
-pub over_same : (p q : Parts) (l : Line) → q ≡ noted p.notes p → Ran p q × Heard (seen_of p) l say.Over (seen_of q)
-over_same p q l e = (same_ran p q (ap hw_of e, ap seen_of e), heard_at (ap seen_of e) (heard.full l))
+pub not_kept : (r : Result Outcome Refused) → IsErr r → said_of r ≡ say.Kept → ⊥
+not_kept (Ok o) h e = absurd (false≢true h)
+not_kept (Err OutOfRange) h e = cc
+not_kept (Err NoRoom) h e = cc
+not_kept (Err NoFrame) h e = cc
+not_kept (Err ReadOnly) h e = cc
 
-module _ (p q : Parts) (n : Note) (c v k : ℕ) (fr : ℕ) (a : Noting p q n) (lc : c < 32) (lv : v < 1024) (lk : k < 512) (ef : fr ≡ p.frames) where
-  space_is : (s : Shown) → s ≡ space_of fr p.space c v → (hw_of p).space c v ≡ s
-  space_is s e = sym (e ∙ ap (λ m. space_of m p.space c v) ef)
+pub unasked : (p : Parts) (l : Line) (r : Result Reply Refused) → IsErr r → Replied l p (reply_of r) p
+unasked p l (Ok o) h = absurd (false≢true h)
+unasked p l (Err e) h = refused_line p p l e (refl, refl)
 
-  pub faults_at_load : Nothing ≡ space_of fr p.space c v → event_of n ≡ Faulted c v → Ran p q × Heard (seen_of p) (line.Load c v k) say.Fault (seen_of q)
-  faults_at_load e b = (ran_to p q n _ a b (faults c v lc lv (space_is Nothing e) (rest _ _)), heard_at (seen_is p q n _ a b) (heard.load_faults c v k))
+pub unchanged : (p q : Parts) → q ≡ p → Same p q
+unchanged p q e = (ap hw_of e, ap seen_of e)
 
-  pub faults_at_store : (x : ℕ) → Nothing ≡ space_of fr p.space c v → event_of n ≡ Faulted c v → Ran p q × Heard (seen_of p) (line.Store c v k x) say.Fault (seen_of q)
-  faults_at_store x e b = (ran_to p q n _ a b (faults c v lc lv (space_is Nothing e) (rest _ _)), heard_at (seen_is p q n _ a b) (heard.store_faults c v k x))
+-- one event noted
+pub noted_line : (p q : Parts) (n : Note) (l : Line) (o : Outcome) → q ≡ noted (n ∷ p.notes) p → Runs (hw_of p) (seen_of p) (hw_of p) (event_of n ∷ seen_of p) → Heard (seen_of p) l o (event_of n ∷ seen_of p) → Plays p l o q
+noted_line p q n l o e r h = subst (λ (x : Parts). Plays p l o x) (sym e) (r, h)
 
-  pub pokes_at_load : (d : ℕ) → Registers d ≡ space_of fr p.space c v → event_of n ≡ Poked c v d → Ran p q × Heard (seen_of p) (line.Load c v k) say.Poked (seen_of q)
-  pokes_at_load d e b = (ran_to p q n _ a b (pokes c v d lc lv (space_is (Registers d) e) (rest _ _)), heard_at (seen_is p q n _ a b) (heard.load_pokes c v k d))
+pub faults_at_load : (p q : Parts) (c v k : ℕ) → c < 32 → v < 1024 → space_of p.space c v ≡ Nothing → q ≡ noted (note.Faulted c v ∷ p.notes) p → Plays p (line.Load c v k) say.Fault q
+faults_at_load p q c v k lc lv e a = noted_line p q _ (line.Load c v k) say.Fault a (faults c v lc lv e (rest _ _)) (heard.load_faults c v k)
 
-  pub pokes_at_store : (x d : ℕ) → Registers d ≡ space_of fr p.space c v → event_of n ≡ Poked c v d → Ran p q × Heard (seen_of p) (line.Store c v k x) say.Poked (seen_of q)
-  pokes_at_store x d e b = (ran_to p q n _ a b (pokes c v d lc lv (space_is (Registers d) e) (rest _ _)), heard_at (seen_is p q n _ a b) (heard.store_pokes c v k x d))
+pub faults_at_store : (p q : Parts) (c v k x : ℕ) → c < 32 → v < 1024 → space_of p.space c v ≡ Nothing → q ≡ noted (note.Faulted c v ∷ p.notes) p → Plays p (line.Store c v k x) say.Fault q
+faults_at_store p q c v k x lc lv e a = noted_line p q _ (line.Store c v k x) say.Fault a (faults c v lc lv e (rest _ _)) (heard.store_faults c v k x)
 
-  pub load_loads : (f x : ℕ) → Frame f ≡ space_of fr p.space c v → x ≡ mem_of p.mem f k → event_of n ≡ Loaded c v k x → Ran p q × Heard (seen_of p) (line.Load c v k) (say.Loaded x) (seen_of q)
-  load_loads f x e m b = (
-    ran_to p q n _ a b (subst (λ y. Runs (hw_of p) (seen_of p) (hw_of p) (Loaded c v k y ∷ seen_of p)) (sym m) (loads c v f k lc lv lk (space_is (Frame f) e) (rest _ _))),
-    heard_at (seen_is p q n _ a b) (heard.loaded c v k x),
-  )
+pub pokes_at_load : (p q : Parts) (c v k d : ℕ) → c < 32 → v < 1024 → space_of p.space c v ≡ Registers d → q ≡ noted (note.Poked c v d ∷ p.notes) p → Plays p (line.Load c v k) say.Poked q
+pokes_at_load p q c v k d lc lv e a = noted_line p q _ (line.Load c v k) say.Poked a (pokes c v d lc lv e (rest _ _)) (heard.load_pokes c v k d)
 
-  -- and then a word is written
-  pub store_stores : (f x : ℕ) (gr : ℕ) (ws : List ℕ) → Frame f ≡ space_of fr p.space c v → event_of n ≡ Stored c v k x → x < 18446744073709551616 → length p.mem ≡ 512 * p.frames → f < p.frames → gr ≡ q.frames →
-      ws ≡ set q.mem (512 * f + k) x → Ran p (written gr ws q.left q) × Heard (seen_of p) (line.Store c v k x) say.Stored (seen_of (written gr ws q.left q))
-  store_stores f x gr ws e b lx len lf eg ew =
-      let z = noted_written p q n (Stored c v k x) gr ws f k x a b len lf lk eg ew in (
-        subst (λ (h : Hw). Runs (hw_of p) (seen_of p) h (seen_of (written gr ws q.left q))) (sym z.0)
-            (subst (λ (es : List Event). Runs (hw_of p) (seen_of p) (with_mem (put f k x (mem_of p.mem)) (hw_of p)) es) (sym z.1) (stores c v f k x lc lv lk lx (space_is (Frame f) e) (rest _ _))),
-        heard_at z.1 (heard.stored c v k x),
-      )
+pub pokes_at_store : (p q : Parts) (c v k x d : ℕ) → c < 32 → v < 1024 → space_of p.space c v ≡ Registers d → q ≡ noted (note.Poked c v d ∷ p.notes) p → Plays p (line.Store c v k x) say.Poked q
+pokes_at_store p q c v k x d lc lv e a = noted_line p q _ (line.Store c v k x) say.Poked a (pokes c v d lc lv e (rest _ _)) (heard.store_pokes c v k x d)
 
--- a line out of range
-pub beyond_range : (p : Parts) (l : Line) → Ran p p × Heard (seen_of p) l (say.No 1) (seen_of p)
-beyond_range p l = (rest (hw_of p) (seen_of p), heard.beyond l)
+pub load_loads : (p q : Parts) (c v k f x : ℕ) → c < 32 → v < 1024 → k < 512 → space_of p.space c v ≡ Frame f → x ≡ mem_of p.mem f k → q ≡ noted (note.Loaded c v k x ∷ p.notes) p → Plays p (line.Load c v k) (say.Loaded x) q
+load_loads p q c v k f x lc lv lk e m a =
+    noted_line p q _ (line.Load c v k) (say.Loaded x) a (subst (λ y. Runs (hw_of p) (seen_of p) (hw_of p) (Loaded c v k y ∷ seen_of p)) (sym m) (loads c v f k lc lv lk e (rest _ _))) (heard.loaded c v k x)
 
--- a call is asked
-pub asked_comes : (p : Parts) (n : Note) (ns : List Note) (c : ℕ) (k : Call) → c < 32 → event_of n ≡ Asked c k → ns ≡ n ∷ p.notes →
-    Comes (hw_of p) (seen_of p) (Some (c, k)) (allowed 2048 (hw_of p)) (map event_of ns)
-asked_comes p n ns c k lc e f =
-    subst (λ (es : List Event). Comes (hw_of p) (seen_of p) (Some (c, k)) (allowed 2048 (hw_of p)) es) (sym (ap (map event_of) f ∙ ap (λ x. x ∷ seen_of p) e)) (comes c k lc (rest (hw_of p) (seen_of p)))
+-- and then a word is written
+pub store_stores : (p q : Parts) (c v k f x fr : ℕ) (ws : List ℕ) → c < 32 → v < 1024 → k < 512 → x < 18446744073709551616 → space_of p.space c v ≡ Frame f → length p.mem ≡ 512 * p.frames → f < p.frames →
+    q ≡ noted (note.Stored c v k x ∷ p.notes) p → fr ≡ q.frames → ws ≡ set q.mem (512 * f + k) x → Plays p (line.Store c v k x) say.Stored (written fr ws q.left q)
+store_stores p q c v k f x fr ws lc lv lk lx e len lf a ef ew =
+    let z = noted_written p q (note.Stored c v k x) fr ws f k x a len lf lk ef ew in (
+      subst (λ (h : Hw). Runs (hw_of p) (seen_of p) h (seen_of (written fr ws q.left q))) (sym z.0)
+          (subst (λ (es : List Event). Runs (hw_of p) (seen_of p) (with_mem (put f k x (mem_of p.mem)) (hw_of p)) es) (sym z.1) (stores c v f k x lc lv lk lx e (rest _ _))),
+      heard_at z.1 (heard.stored c v k x),
+    )
 
 -- what comes after some running comes
 pub ran_comes : {h i j : Hw} {es fs gs : List Event} {o : Option (ℕ × Call)} → Runs h es i fs → Comes i fs o j gs → Comes h es o j gs
 ran_comes r (comes c k l s) = comes c k l (runs_then r s)
 ran_comes r (over s) = over (runs_then r s)
+
+-- a call is asked
+pub asked_comes : (p : Parts) (ns : List Note) (c : ℕ) (k : Call) → c < 32 → ns ≡ note.Asked c k ∷ p.notes → Comes (hw_of p) (seen_of p) (Some (c, k)) (allowed 2048 (hw_of p)) (map event_of ns)
+asked_comes p ns c k lc f =
+    subst (λ (ms : List Note). Comes (hw_of p) (seen_of p) (Some (c, k)) (allowed 2048 (hw_of p)) (map event_of ms)) (sym f) (comes c k lc (rest (hw_of p) (seen_of p)))
+
+-- a line that asks for nothing: the machine ran, and it goes on
+pub went_on : (l : Line) (p q : Parts) (r : Reply) → ((o : Outcome) × (r ≡ Says o)) ⊎ (r ≡ Quiet) → Replied l p r q → Ran p q
+went_on l p q r (inl (o, e)) h = (rw e at h).0
+went_on l p q r (inr e) h = same_ran p q (rw e at h)
+
+pub all_over : (p q : Parts) (r : Result (Option (ℕ × Call)) Ended) → IsErr r → Ran p q → Turned p r q
+all_over p q (Ok o) h a = absurd (false≢true h)
+all_over p q (Err e) h a = a

@@ -1,175 +1,156 @@
--- Lists read off an array's front: equal fronts, one more, one taken out, all of a device taken out.
-use Rattle.std.proofs.Common.{◌≡◌, ℕ, zero, suc, ◌+◌, ◌-◌, ◌<◌, ◌≤◌, Bool, true, false, cond, ◌||◌, eqb, ltb, ◌≢◌, ◌⊎◌, List, [], ◌∷◌, length, get_or, set, sym, refl, ap, ◌∙◌, subst, inl, inr, add-one, arith, get_or-set_other, get_or-set_same}
+-- Lists in the front of an array, read newest first.
+use Rattle.std.proofs.Common.{◌≡◌, ℕ, zero, suc, ◌+◌, ◌-◌, ◌<◌, ◌≤◌, Bool, true, false, cond, ◌⊎◌, List, [], ◌∷◌, ◌++◌, reverse, length, take, drop, get_or, sym, refl, ap, ◌∙◌, subst, inl, inr, arith, filter, find, IfSome, Some, None, append_assoc, append-nil, length-drop, ltb, eqb, set, not}
 use mathlib.Core.List.{Memᴰ}
-use Rattle.std.proofs.lemmas.Bool.{cases_eq, eqb-true, ne_eqb, eq-eqb, le-ltb, lt-ltb, cond-true, cond-false, or_cases}
+use Rattle.std.specs.List.{list_any}
+use Rattle.std.proofs.lemmas.Bool.{cases_Bool, cond-true, cond-false, or_cases, le-ltb, lt-ltb, not_from_false, not_from_true, ne_eqb, eq-eqb}
+use Rattle.std.proofs.lemmas.List.{reverse-append, length-reverse, length-take-le}
+use Rattle.std.proofs.lemmas.List.Sorted.{list_any-IsPermutation, IsPermutation-reverse}
+use Rattle.std.proofs.lemmas.List.Edits.{take-paste}
+use lib.Seq.{paste}
+use Rattle.std.proofs.lemmas.List.Filters.{FiltersInPlace, FiltersInPlace-more_set, FiltersInPlace-more_no}
 use Rattle.house.specs.Machine.{drop_one}
-use Rattle.simulator.specs.Lists.{newest, among, without, device_in, learnt}
+use Rattle.simulator.specs.Kept.{among, learnt, without}
 
-pub newest_agree : {A : Type 0} (d : A) (xs ys : List A) (n : ℕ) → ((k : ℕ) → k < n → get_or xs k d ≡ get_or ys k d) → newest d xs n ≡ newest d ys n
-unfolding newest
-newest_agree d xs ys zero h = refl
-newest_agree d xs ys (suc n) h =
-    let e = newest_agree d xs ys n (λ k l. h k (omega arith)) in let f = h n (omega arith) in cc
+pub mem_at : {A : Type 0} (xs : List A) (i : ℕ) (x : A) → i < length xs → x ≡ get_or xs i x → Memᴰ x xs
+mem_at [] i x l e = absurd (omega arith)
+mem_at (y ∷ xs) zero x l e = Memᴰ.head e
+mem_at (y ∷ xs) (suc i) x l e = Memᴰ.tail (mem_at xs i x (omega arith) e)
 
-pub newest_none : {A : Type 0} (d : A) (xs : List A) → newest d xs 0 ≡ []
-unfolding newest
-newest_none d xs = refl
+mem_right : {A : Type 0} (xs : List A) {x : A} {ys : List A} → Memᴰ x ys → Memᴰ x (xs ++ ys)
+mem_right [] m = m
+mem_right (z ∷ xs) m = Memᴰ.tail (mem_right xs m)
 
-pub newest_suc : {A : Type 0} (d : A) (xs : List A) (n : ℕ) → newest d xs (suc n) ≡ get_or xs n d ∷ newest d xs n
-unfolding newest
-newest_suc d xs n = refl
+mem_left : {A : Type 0} (ys : List A) {x : A} {xs : List A} → Memᴰ x xs → Memᴰ x (xs ++ ys)
+mem_left ys (Memᴰ.head e) = Memᴰ.head e
+mem_left ys (Memᴰ.tail m) = Memᴰ.tail (mem_left ys m)
 
-pub newest_more : {A : Type 0} (d : A) (xs : List A) (n : ℕ) → newest d xs (n + 1) ≡ get_or xs n d ∷ newest d xs n
-newest_more d xs n = rw add-one (newest_suc d xs n)
+reverse_cons : {A : Type 0} (x : A) (xs : List A) → reverse (x ∷ xs) ≡ reverse xs ++ x ∷ []
+reverse_cons x xs = reverse-append (x ∷ []) xs
 
-pub newest_push : {A : Type 0} (d : A) (xs : List A) (n : ℕ) (w : A) → n < length xs → newest d (set xs n w) (n + 1) ≡ w ∷ newest d xs n
-newest_push d xs n w l =
-    let a = newest_more d (set xs n w) n in
-    let b = get_or-set_same xs n w d l in
-    let c = newest_agree d (set xs n w) xs n (λ k m. let ne : k ≢ n = omega arith in get_or-set_other xs n k w d ne) in
-    cc
+pub mem_reverse : {A : Type 0} {x : A} {xs : List A} → Memᴰ x xs → Memᴰ x (reverse xs)
+mem_reverse {A} {x} (Memᴰ.head {x = y} {xs} e) = subst (λ (ys : List A). Memᴰ x ys) (sym (reverse_cons y xs)) (mem_right (reverse xs) (Memᴰ.head e))
+mem_reverse {A} {x} (Memᴰ.tail {x = y} {xs} m) = subst (λ (ys : List A). Memᴰ x ys) (sym (reverse_cons y xs)) (mem_left (y ∷ []) (mem_reverse m))
 
-pub newest_member : {A : Type 0} (d : A) (xs : List A) (n i : ℕ) → i < n → Memᴰ (get_or xs i d) (newest d xs n)
-newest_member d xs zero i l = absurd (omega arith)
-newest_member {A} d xs (suc n) i l =
-    subst (λ (ys : List A). Memᴰ (get_or xs i d) ys) (sym (newest_suc d xs n)) (go (cases_eq i n) (newest_member d xs n i))
+-- what a test of sameness finds is there
+pub any_member : {A : Type 0} (eq : A → A → Bool) (same : (x y : A) → eq x y ≡ true → x ≡ y) (x : A) (xs : List A) → list_any (λ y. eq y x) xs ≡ true → Memᴰ x xs
+any_member eq same x [] e = absurd (let z : ◌≡◌ {A = Bool} false true = e in let y : ◌≡◌ {A = ℕ} 0 1 = cc in omega arith)
+any_member {A} eq same x (y ∷ ys) e = go (or_cases (eq y x) (list_any (λ z. eq z x) ys) e) (any_member eq same x ys)
   where
-    go : (i ≡ n) ⊎ (i ≡ n → ⊥) → (i < n → Memᴰ (get_or xs i d) (newest d xs n)) → Memᴰ (get_or xs i d) (get_or xs n d ∷ newest d xs n)
-    go (inl e) r = Memᴰ.head (ap (λ (k : ℕ). get_or xs k d) e)
-    go (inr e) r = Memᴰ.tail (r (omega arith))
+    go : (eq y x ≡ true) ⊎ (list_any (λ z. eq z x) ys ≡ true) → (list_any (λ z. eq z x) ys ≡ true → Memᴰ x ys) → Memᴰ x (y ∷ ys)
+    go (inl a) r = Memᴰ.head (sym (same y x a))
+    go (inr a) r = Memᴰ.tail (r a)
 
--- looking for a word
-pub among_none : (w : ℕ) (xs : List ℕ) → among w (newest 0 xs 0) ≡ false
-unfolding newest among
-among_none w xs = refl
+pub any_reverse : {A : Type 0} (p : A → Bool) (xs : List A) → list_any p xs ≡ list_any p (reverse xs)
+any_reverse p xs = list_any-IsPermutation p xs (reverse xs) (IsPermutation-reverse xs)
 
-pub among_cons : (w x : ℕ) (xs : List ℕ) → among w (x ∷ xs) ≡ (eqb w x || among w xs)
-unfolding among
-among_cons w x xs = refl
-
-pub among_more : (w : ℕ) (xs : List ℕ) (i : ℕ) → among w (newest 0 xs i) ≡ false → (get_or xs i 0 ≡ w → ⊥) → among w (newest 0 xs (i + 1)) ≡ false
-among_more w xs i h ne =
-    let a = newest_more 0 xs i in
-    let b = among_cons w (get_or xs i 0) (newest 0 xs i) in
-    let c = ne_eqb w (get_or xs i 0) (λ e. ne (sym e)) in
-    let d : (eqb w (get_or xs i 0) || among w (newest 0 xs i)) ≡ (false || false) = cc in
-    cc
-
-pub among_here : (w : ℕ) (xs : List ℕ) → among w (w ∷ xs) ≡ true
-among_here w xs = let b = among_cons w w xs in let c = eq-eqb w w refl in let d : (eqb w w || among w xs) ≡ (true || among w xs) = cc in cc
-
-pub among_member : (w : ℕ) (xs : List ℕ) → Memᴰ w xs → among w xs ≡ true
-among_member w _ (Memᴰ.head {x} {xs} e) = subst (λ (y : ℕ). among w (y ∷ xs) ≡ true) e (among_here w xs)
-among_member w _ (Memᴰ.tail {x} {xs} m) =
-    let r = among_member w xs m in let b = among_cons w x xs in let d : (eqb w x || among w xs) ≡ (eqb w x || true) = cc in
-    let f : (eqb w x || true) ≡ true = or_true (eqb w x) in cc
+pub found_member : {A : Type 0} (p : A → Bool) (xs : List A) → IfSome (find p xs) (λ x. (p x ≡ true) × Memᴰ x xs)
+found_member p [] = tt
+found_member {A} p (x ∷ xs) = go (cases_Bool (p x)) (found_member p xs)
   where
-    or_true : (b : Bool) → (b || true) ≡ true
-    or_true true = refl
-    or_true false = refl
+    P : Rattle.std.specs.declared.option.Option.Option A → Type 0
+    P r = IfSome r (λ y. (p y ≡ true) × Memᴰ y (x ∷ xs))
 
-pub member_among : (w : ℕ) (xs : List ℕ) → among w xs ≡ true → Memᴰ w xs
-unfolding among
-member_among w [] h = absurd (let z : ◌≡◌ {A = Bool} false true = h in let y : ◌≡◌ {A = ℕ} 0 1 = cc in omega arith)
-member_among w (x ∷ xs) h = go (or_cases (eqb w x) (among w xs) h) (member_among w xs)
-  where
-    go : (eqb w x ≡ true) ⊎ (among w xs ≡ true) → (among w xs ≡ true → Memᴰ w xs) → Memᴰ w (x ∷ xs)
-    go (inl e) r = Memᴰ.head (eqb-true w x e)
-    go (inr e) r = Memᴰ.tail (r e)
+    more : (r : Rattle.std.specs.declared.option.Option.Option A) → IfSome r (λ y. (p y ≡ true) × Memᴰ y xs) → P r
+    more None h = tt
+    more (Some y) h = (h.0, Memᴰ.tail h.1)
 
-pub found_at : (w : ℕ) (xs : List ℕ) (n i : ℕ) → i < n → get_or xs i 0 ≡ w → among w (newest 0 xs n) ≡ true
-found_at w xs n i l e = among_member w (newest 0 xs n) (subst (λ (y : ℕ). Memᴰ y (newest 0 xs n)) e (newest_member 0 xs n i l))
+    go : (p x ≡ true) ⊎ (p x ≡ false) → IfSome (find p xs) (λ y. (p y ≡ true) × Memᴰ y xs) → P (cond (p x) (Some x) (find p xs))
+    go (inl e) h = subst P (sym (cond-true (p x) (Some x) (find p xs) e)) (e, Memᴰ.head refl)
+    go (inr e) h = subst P (sym (cond-false (p x) (Some x) (find p xs) e)) (more (find p xs) h)
 
 -- one taken out
-pub newest_shifted : (xs ys : List ℕ) (n i : ℕ) → i < n → ((k : ℕ) → k < i → get_or ys k 0 ≡ get_or xs k 0) → ((k : ℕ) → i ≤ k → k < n - 1 → get_or ys k 0 ≡ get_or xs (k + 1) 0) →
-    newest 0 ys (n - 1) ≡ drop_one (n - 1 - i) (newest 0 xs n)
-unfolding newest drop_one
-newest_shifted xs ys zero i l low high = absurd (omega arith)
-newest_shifted xs ys (suc n) i l low high = go (cases_eq i n) n refl (λ m. newest_shifted xs ys n i m low (λ k a b. high k a (omega arith)))
+pub drop_mid : {A : Type 0} (pre : List A) (x : A) (xs : List A) → drop_one (length pre) (pre ++ x ∷ xs) ≡ pre ++ xs
+unfolding drop_one
+drop_mid [] x xs = refl
+drop_mid (y ∷ pre) x xs = ap (λ ys. y ∷ ys) (drop_mid pre x xs)
+
+drop_reversed : {A : Type 0} (ys : List A) (x : A) (zs : List A) → drop_one (length zs) (reverse (ys ++ x ∷ zs)) ≡ reverse (ys ++ zs)
+drop_reversed {A} ys x zs =
+    let a : reverse (ys ++ x ∷ zs) ≡ (reverse zs ++ x ∷ []) ++ reverse ys = reverse-append ys (x ∷ zs) ∙ ap (λ us. us ++ reverse ys) (reverse_cons x zs) in
+    let b : reverse (ys ++ x ∷ zs) ≡ reverse zs ++ x ∷ reverse ys = a ∙ append_assoc (reverse zs) (x ∷ []) (reverse ys) in
+    ap (drop_one (length zs)) b ∙ (ap (λ n. drop_one n (reverse zs ++ x ∷ reverse ys)) (sym (length-reverse zs)) ∙ (drop_mid (reverse zs) x (reverse ys) ∙ sym (reverse-append ys zs)))
+
+split_taken : {A : Type 0} (xs : List A) (i n : ℕ) → i < n → n ≤ length xs → (x : A) × (take n xs ≡ take i xs ++ x ∷ take (n - suc i) (drop (suc i) xs))
+split_taken xs i zero l m = absurd (omega arith)
+split_taken [] i (suc n) l m = absurd (omega arith)
+split_taken (x ∷ xs) zero (suc n) l m = let q : n ≡ suc n - suc 0 = omega arith in (x, ap (λ j. x ∷ take j xs) q)
+split_taken (x ∷ xs) (suc i) (suc n) l m =
+    let r = split_taken xs i n (omega arith) (omega arith) in
+    let q : n - suc i ≡ suc n - suc (suc i) = omega arith in
+    (r.0, ap (λ ys. x ∷ ys) (r.1 ∙ ap (λ j. take i xs ++ r.0 ∷ take j (drop (suc i) xs)) q))
+
+-- n stand there, and the one at i is taken out: those behind it are copied one place up
+pub taken_out : {A : Type 0} (xs ys : List A) (n i : ℕ) → i < n → n ≤ length xs → ys ≡ paste xs i (drop (i + 1) xs) (n - (i + 1)) → reverse (take (n - 1) ys) ≡ drop_one (n - 1 - i) (reverse (take n xs))
+taken_out {A} xs ys n i l m e =
+    let k : ℕ = n - suc i in
+    let rest : List A = drop (suc i) xs in
+    let s = split_taken xs i n l m in
+    let q0 : i + 1 ≡ suc i = omega arith in
+    let q1 : n - 1 ≡ i + k = omega arith in
+    let q2 : n - 1 - i ≡ k = omega arith in
+    let e' : ys ≡ paste xs i rest k = e ∙ ap (λ j. paste xs i (drop j xs) (n - j)) q0 in
+    let ln : length rest ≡ length xs - suc i = length-drop (suc i) xs in
+    let t : take (n - 1) ys ≡ take i xs ++ take k rest = ap (take (n - 1)) e' ∙ (ap (λ j. take j (paste xs i rest k)) q1 ∙ take-paste xs i rest k (omega arith) (omega arith)) in
+    let w : length (take k rest) ≡ k = length-take-le k rest (omega arith) in
+    ap reverse t ∙ (sym (drop_reversed (take i xs) s.0 (take k rest)) ∙ (ap (λ j. drop_one j (reverse (take i xs ++ s.0 ∷ take k rest))) (w ∙ sym q2) ∙ ap (λ us. drop_one (n - 1 - i) (reverse us)) (sym s.1)))
+
+-- a filter of a list turned round
+filter_append : {A : Type 0} (p : A → Bool) (xs ys : List A) → filter p (xs ++ ys) ≡ filter p xs ++ filter p ys
+filter_append p [] ys = refl
+filter_append {A} p (x ∷ xs) ys = go (p x) (filter_append p xs ys)
   where
-    go : (i ≡ n) ⊎ (i ≡ n → ⊥) → (m : ℕ) → m ≡ n → (i < n → newest 0 ys (n - 1) ≡ drop_one (n - 1 - i) (newest 0 xs n)) → newest 0 ys (suc n - 1) ≡ drop_one (suc n - 1 - i) (newest 0 xs (suc n))
-    go (inl e) m f r =
-        let a : suc n - 1 ≡ n = omega arith in
-        let b : suc n - 1 - i ≡ 0 = omega arith in
-        let c : newest 0 ys n ≡ newest 0 xs n = newest_agree 0 ys xs n (λ k h. low k (omega arith)) in
-        subst (λ (u : ℕ). newest 0 ys (suc n - 1) ≡ drop_one u (newest 0 xs (suc n))) (sym b) (subst (λ (u : ℕ). newest 0 ys u ≡ newest 0 xs n) (sym a) c)
-    go (inr e) zero f r = absurd (omega arith)
-    go (inr e) (suc m) f r =
-        let a : suc n - 1 ≡ suc m = omega arith in
-        let b : suc n - 1 - i ≡ suc (n - 1 - i) = omega arith in
-        let q : m ≡ n - 1 = omega arith in
-        let s = r (omega arith) in
-        let h : get_or ys m 0 ≡ get_or xs (m + 1) 0 = high m (omega arith) (omega arith) in
-        let g : m + 1 ≡ n = omega arith in
-        let c : get_or ys m 0 ∷ newest 0 ys m ≡ get_or xs n 0 ∷ drop_one (n - 1 - i) (newest 0 xs n) = cc in
-        subst (λ (u : ℕ). newest 0 ys (suc n - 1) ≡ drop_one u (newest 0 xs (suc n))) (sym b) (subst (λ (u : ℕ). newest 0 ys u ≡ get_or xs n 0 ∷ drop_one (n - 1 - i) (newest 0 xs n)) (sym a) c)
+    go : (b : Bool) → filter p (xs ++ ys) ≡ filter p xs ++ filter p ys → cond b (x ∷ filter p (xs ++ ys)) (filter p (xs ++ ys)) ≡ cond b (x ∷ filter p xs) (filter p xs) ++ filter p ys
+    go true r = ap (λ us. x ∷ us) r
+    go false r = r
 
--- all of a device taken out: one word more, of that device or of another
-pub sifted_none : (d : ℕ) (xs ys : List ℕ) → newest 0 ys 0 ≡ without d (newest 0 xs 0)
-unfolding newest without
-sifted_none d xs ys = refl
-
-pub without_more : (d : ℕ) (xs : List ℕ) (i : ℕ) → without d (newest 0 xs (i + 1)) ≡ cond (eqb d (device_in (get_or xs i 0))) (without d (newest 0 xs i)) (get_or xs i 0 ∷ without d (newest 0 xs i))
-unfolding without
-without_more d xs i = ap (without d) (newest_more 0 xs i)
-
-pub sifted_out : (d : ℕ) (xs ys : List ℕ) (i k : ℕ) → newest 0 ys k ≡ without d (newest 0 xs i) → d ≡ device_in (get_or xs i 0) → newest 0 ys k ≡ without d (newest 0 xs (i + 1))
-sifted_out d xs ys i k h e =
-    h ∙ sym (without_more d xs i ∙ cond-true (eqb d (device_in (get_or xs i 0))) _ _ (eq-eqb d (device_in (get_or xs i 0)) e))
-
-pub sifted_in : (d : ℕ) (xs ys : List ℕ) (i k w : ℕ) → newest 0 ys k ≡ without d (newest 0 xs i) → (d ≡ device_in (get_or xs i 0) → ⊥) → w ≡ get_or xs i 0 → k < length ys →
-    newest 0 (set ys k w) (k + 1) ≡ without d (newest 0 xs (i + 1))
-sifted_in d xs ys i k w h ne e l =
-    let a = newest_push 0 ys k w l in
-    let b = without_more d xs i ∙ cond-false (eqb d (device_in (get_or xs i 0))) _ _ (ne_eqb d (device_in (get_or xs i 0)) ne) in
-    cc
-
--- a loop that moves each one up by one: i is where it began, j where it is
-abbrev pub Moved : ℕ → ℕ → List ℕ → List ℕ → Type 0
-Moved i j xs ys =
-    ((k : ℕ) → k < i → get_or ys k 0 ≡ get_or xs k 0) × ((k : ℕ) → i ≤ k → k < j → get_or ys k 0 ≡ get_or xs (k + 1) 0) × ((k : ℕ) → j ≤ k → get_or ys k 0 ≡ get_or xs k 0)
-
-pub moved_more : (i j : ℕ) (xs ys : List ℕ) → Moved i j xs ys → i ≤ j → j < length ys → Moved i (j + 1) xs (set ys j (get_or ys (j + 1) 0))
-moved_more i j xs ys h le l =
-    (λ k m. let ne : k ≢ j = omega arith in get_or-set_other ys j k v 0 ne ∙ h.0 k m, λ k m p. middle k m p (cases_eq k j), λ k m. let ne : k ≢ j = omega arith in get_or-set_other ys j k v 0 ne ∙ h.2 k (omega arith))
+pub filter_reverse : {A : Type 0} (p : A → Bool) (xs : List A) → reverse (filter p xs) ≡ filter p (reverse xs)
+filter_reverse p [] = refl
+filter_reverse {A} p (x ∷ xs) =
+    go (p x) refl (filter_reverse p xs) ∙ (sym (filter_append p (reverse xs) (x ∷ [])) ∙ ap (filter p) (sym (reverse_cons x xs)))
   where
-    v : ℕ
-    v = get_or ys (j + 1) 0
+    go : (b : Bool) → p x ≡ b → reverse (filter p xs) ≡ filter p (reverse xs) → reverse (cond b (x ∷ filter p xs) (filter p xs)) ≡ filter p (reverse xs) ++ cond b (x ∷ []) []
+    go true e r = reverse_cons x (filter p xs) ∙ ap (λ us. us ++ x ∷ []) r
+    go false e r = r ∙ sym (append-nil (filter p (reverse xs)))
 
-    middle : (k : ℕ) → i ≤ k → k < j + 1 → (k ≡ j) ⊎ (k ≡ j → ⊥) → get_or (set ys j v) k 0 ≡ get_or xs (k + 1) 0
-    middle k m p (inl e) = let a = get_or-set_same ys j v 0 l in let b = h.2 (j + 1) (omega arith) in let d : v ≡ get_or ys (j + 1) 0 = refl in cc
-    middle k m p (inr e) = get_or-set_other ys j k v 0 e ∙ h.1 k m (omega arith)
+-- all of a device taken out: so many looked at, so many left
+abbrev pub Sifting : {A : Type 0} → (A → ℕ) → ℕ → List A → List A → ℕ → ℕ → Type 0
+Sifting dev d xs ys k i = FiltersInPlace (λ x. not (eqb d (dev x))) xs ys k i
 
--- a loop that keeps all but one device's: so many looked at, so many kept
-abbrev pub Sifting : ℕ → ℕ → ℕ → List ℕ → List ℕ → Type 0
-Sifting d i k xs ys = (k ≤ i) × (newest 0 ys k ≡ without d (newest 0 xs i)) × ((m : ℕ) → i ≤ m → get_or ys m 0 ≡ get_or xs m 0)
+module _ {A : Type 0} (dev : A → ℕ) (d : ℕ) (xs ys : List A) (k i : ℕ) (f : Sifting dev d xs ys k i) where
+  pub sifting_in : (x : A) (r : ℕ) → i < length ys → x ≡ get_or ys i x → r ≡ dev x → (r ≡ d → ⊥) → Sifting dev d xs (set ys k x) (k + 1) (i + 1)
+  sifting_in x r l e q ne = FiltersInPlace-more_set f l (not_from_false (eqb d (dev x)) (ne_eqb d (dev x) (λ z. ne (q ∙ sym z)))) e
 
-pub sifting_out : (d i k : ℕ) (xs ys : List ℕ) → Sifting d i k xs ys → device_in (get_or ys i 0) ≡ d → Sifting d (i + 1) k xs ys
-sifting_out d i k xs ys h e =
-    (omega arith, sifted_out d xs ys i k h.1 (sym e ∙ ap device_in (h.2 i (omega arith))), λ m l. h.2 m (omega arith))
+  pub sifting_out : (x : A) (r : ℕ) → i < length ys → x ≡ get_or ys i x → r ≡ dev x → r ≡ d → Sifting dev d xs ys k (i + 1)
+  sifting_out x r l e q z = FiltersInPlace-more_no f l (not_from_true (eqb d (dev x)) (eq-eqb d (dev x) (sym z ∙ q))) e
 
-pub sifting_in : (d i k : ℕ) (xs ys : List ℕ) → Sifting d i k xs ys → (device_in (get_or ys i 0) ≡ d → ⊥) → i < length ys → Sifting d (i + 1) (k + 1) xs (set ys k (get_or ys i 0))
-sifting_in d i k xs ys h ne l = (
-  omega arith,
-  sifted_in d xs ys i k (get_or ys i 0) h.1 (λ e. ne (sym (e ∙ ap device_in (sym (h.2 i (omega arith)))))) (h.2 i (omega arith)) (omega arith),
-  λ m n. let q : m ≢ k = omega arith in get_or-set_other ys k m (get_or ys i 0) 0 q ∙ h.2 m (omega arith),
-)
+  pub sifted : (n : ℕ) → i ≡ n → reverse (take k ys) ≡ without dev d (reverse (take n xs))
+  sifted n e = ap reverse f.front ∙ (filter_reverse (λ x. not (eqb d (dev x))) (take i xs) ∙ ap (λ j. without dev d (reverse (take j xs))) e)
 
--- keeping one more
-pub learnt_known : (w n m : ℕ) (xs : List ℕ) → among w xs ≡ true → xs ≡ learnt w n m xs
-learnt_known w n m xs e = sym (cond-true (among w xs) _ _ e)
+-- one chosen among those that stand there
+pub chosen : {A : Type 0} (xs ys : List A) (i : ℕ) (x : A) → xs ≡ ys → i < length xs → x ≡ get_or xs i x → Memᴰ x (reverse ys)
+chosen {A} xs ys i x e l f = mem_reverse (subst (λ (us : List A). Memᴰ x us) e (mem_at xs i x l f))
 
-pub learnt_full : (w n m : ℕ) (xs : List ℕ) → among w xs ≡ false → m ≤ n → xs ≡ learnt w n m xs
-learnt_full w n m xs e l = sym (cond-false (among w xs) _ _ e ∙ cond-false (ltb n m) _ _ (le-ltb n m l))
+-- keeping one more: what a test among those that stand there says
+module _ {A : Type 0} (eq : A → A → Bool) (x : A) (xs ys : List A) (n m : ℕ) (r : Bool) (e : xs ≡ ys) (t : r ≡ list_any (λ y. eq y x) xs) where
+  is_among : among eq x (reverse ys) ≡ r
+  is_among = sym (any_reverse (λ y. eq y x) ys) ∙ (ap (list_any (λ y. eq y x)) (sym e) ∙ sym t)
 
-pub learnt_new : (w n m : ℕ) (xs : List ℕ) → among w xs ≡ false → n < m → w ∷ xs ≡ learnt w n m xs
-learnt_new w n m xs e l = sym (cond-false (among w xs) _ _ e ∙ cond-true (ltb n m) _ _ (lt-ltb n m l))
+  pub known_member : (same : (a b : A) → eq a b ≡ true → a ≡ b) → r ≡ true → Memᴰ x (reverse ys)
+  known_member same q = mem_reverse (subst (λ (us : List A). Memᴰ x us) e (any_member eq same x xs (sym t ∙ q)))
 
-pub learn_pushes : (w n : ℕ) (xs : List ℕ) → false ≡ among w (newest 0 xs n) → n < length xs →
-    (newest 0 (set xs n w) (n + 1) ≡ learnt w n (length xs) (newest 0 xs n)) × (true ≡ among w (newest 0 (set xs n w) (n + 1)))
-learn_pushes w n xs e l =
-    let p = newest_push 0 xs n w l in
-    (p ∙ learnt_new w n (length xs) (newest 0 xs n) (sym e) l, sym (ap (among w) p ∙ among_here w (newest 0 xs n)))
+  pub unknown : r ≡ false → among eq x (reverse ys) ≡ false
+  unknown q = is_among ∙ q
 
-pub sifting_at : (d i j k : ℕ) (xs ys zs : List ℕ) → k ≡ j → zs ≡ ys → Sifting d i j xs ys → Sifting d i k xs zs
-sifting_at d i j k xs ys zs e f h = subst (λ (m : ℕ). Sifting d i m xs zs) (sym e) (subst (λ (us : List ℕ). Sifting d i j xs us) (sym f) h)
+  pub learnt_known : r ≡ true → reverse ys ≡ learnt eq x n m (reverse ys)
+  learnt_known q = sym (cond-true (among eq x (reverse ys)) _ _ (is_among ∙ q))
+
+  pub learnt_full : r ≡ false → m ≤ n → reverse ys ≡ learnt eq x n m (reverse ys)
+  learnt_full q l = sym (cond-false (among eq x (reverse ys)) _ _ (is_among ∙ q) ∙ cond-false (ltb n m) _ _ (le-ltb n m l))
+
+  pub learnt_new : r ≡ false → n < m → x ∷ reverse ys ≡ learnt eq x n m (reverse ys)
+  learnt_new q l = sym (cond-false (among eq x (reverse ys)) _ _ (is_among ∙ q) ∙ cond-true (ltb n m) _ _ (lt-ltb n m l))
+
+-- nothing is there to be dropped
+pub none_dropped : {A : Type 0} (xs : List A) (n : ℕ) → n ≡ 0 → (k : ℕ) × (reverse (take n xs) ≡ drop_one k (reverse (take n xs)))
+unfolding drop_one
+none_dropped {A} xs n e = (0, subst (λ (j : ℕ). reverse (take j xs) ≡ drop_one 0 (reverse (take j xs))) (sym e) refl)

@@ -4,11 +4,12 @@ use Rattle.house.specs.Event.{Event, Asked, Told, Loaded, Stored, Faulted, Poked
 use Rattle.house.specs.declared.Call.{Call}
 use Rattle.house.specs.declared.Answer.{Answer}
 use Rattle.house.specs.Meaning.{State, Now, Quiet, Under, Over, Run, begin, asks, loosened, acted, refused, not_built, tells, loads, stores, pokes, faults, took, puts, misses, drains}
-use Rattle.simulator.specs.declared.rows.Note.{Note}
+use Rattle.simulator.specs.declared.events.Event.{Event as Note}
+use Rattle.simulator.specs.declared.events.Event.TheVariants as note
 use Rattle.simulator.specs.Notes.{event_of, aside, owed}
 
 pub aside_owed : (e : Event) (es : List Event) → aside e ≡ true → owed (e ∷ es) ≡ owed es
-unfolding aside owed
+unfolding owed
 aside_owed (Asked c k) es h = absurd (let z : ◌≡◌ {A = ℕ} 0 1 = cc in omega arith)
 aside_owed (Told c k a) es h = absurd (let z : ◌≡◌ {A = ℕ} 0 1 = cc in omega arith)
 aside_owed (Loaded c v k x) es h = refl
@@ -78,17 +79,15 @@ told_owed can start es c k a s n (not_built r x) = told_owed can start es c k a 
 told_owed can start es c k a s n (tells r x) = run_owed r
 
 -- one noted for an asking: there is room for a whole call
-pub room_asked : (n : Note) (ns ms : List Note) (c : ℕ) (k : Call) (count count' len : ℕ) → event_of n ≡ Asked c k → ms ≡ n ∷ ns → count' ≡ count + 1 → count + 2050 ≤ len → count' + 2048 + owed (map event_of ms) ≤ len
+pub room_asked : (ns ms : List Note) (c : ℕ) (k : Call) (count count' len : ℕ) → ms ≡ note.Asked c k ∷ ns → count' ≡ count + 1 → count + 2050 ≤ len → count' + 2048 + owed (map event_of ms) ≤ len
 unfolding owed
-room_asked n ns ms c k count count' len a e f l =
-    let o : owed (map event_of ms) ≡ 1 = ap (λ (us : List Note). owed (map event_of us)) e ∙ ap (λ (x : Event). owed (x ∷ map event_of ns)) a in omega arith
+room_asked ns ms c k count count' len e f l = let o : owed (map event_of ms) ≡ 1 = ap (λ (us : List Note). owed (map event_of us)) e in omega arith
 
 -- one noted for an answer that was owed
-pub room_told : (n : Note) (ns ms : List Note) (c : ℕ) (k : Call) (b : Answer) (count count' left len : ℕ) → event_of n ≡ Told c k b → ms ≡ n ∷ ns → count' ≡ count + 1 → owed (map event_of ns) ≡ 1 → count + left + owed (map event_of ns) ≤ len →
+pub room_told : (ns ms : List Note) (c : ℕ) (k : Call) (b : Answer) (count count' left len : ℕ) → ms ≡ note.Told c k b ∷ ns → count' ≡ count + 1 → owed (map event_of ns) ≡ 1 → count + left + owed (map event_of ns) ≤ len →
     count' + left + owed (map event_of ms) ≤ len
 unfolding owed
-room_told n ns ms c k b count count' left len a e f q l =
-    let o : owed (map event_of ms) ≡ 0 = ap (λ (us : List Note). owed (map event_of us)) e ∙ ap (λ (x : Event). owed (x ∷ map event_of ns)) a in omega arith
+room_told ns ms c k b count count' left len e f q l = let o : owed (map event_of ms) ≡ 0 = ap (λ (us : List Note). owed (map event_of us)) e in omega arith
 
 -- at the start nothing is owed but the askings of setting up
 pub room_start : (ns : List Note) (count len : ℕ) → ns ≡ [] → count + 2048 ≤ len → count + 2048 + owed (map event_of ns) ≤ len

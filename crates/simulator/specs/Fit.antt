@@ -1,7 +1,7 @@
 -- Of what is lent, what a machine can be made of.
 -- Assumes nothing.
 use Rattle.std.specs.Prelude.{◌≡◌, ℕ, ◌%◌, ◌<◌, ◌≤◌, ◌⊎◌, List, length, slice_index_or}
-use Rattle.simulator.specs.declared.rows.Device.{Device}
+use Rattle.simulator.specs.declared.devices.Device.{Device}
 use Rattle.simulator.specs.declared.lent.Unfit.{Unfit}
 use Rattle.simulator.specs.declared.lent.Unfit.TheVariants.{Frames, Spaces, Devices, Numbers, Log, Room}
 use Rattle.simulator.specs.Store.{no_device}

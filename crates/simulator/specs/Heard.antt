@@ -1,6 +1,6 @@
 -- What is handed over for a line of a script.
 -- Assumes nothing.
-use Rattle.std.specs.Prelude.{◌≡◌, ℕ, Bool, true, false, List, ◌∷◌, Some, MatchBool}
+use Rattle.std.specs.Prelude.{◌≡◌, ℕ, Bool, true, false, List, ◌∷◌, Some, Result, Ok, Err, MatchBool}
 use Rattle.house.specs.declared.Call.{Call}
 use Rattle.house.specs.declared.Call.TheVariants as call
 use Rattle.house.specs.declared.Answer.{Answer}
@@ -14,7 +14,10 @@ use Rattle.script.specs.declared.forms.Line.TheVariants as line
 use Rattle.script.specs.declared.outcomes.Outcome.{Outcome}
 use Rattle.script.specs.declared.outcomes.Outcome.TheVariants as say
 use Rattle.simulator.specs.declared.replies.Reply.{Reply}
-use Rattle.simulator.specs.declared.replies.Reply.TheVariants.{Says, Quiet, Asks, Full}
+use Rattle.simulator.specs.declared.replies.Reply.TheVariants.{Says, Quiet, Asks}
+use Rattle.simulator.specs.declared.front.NoRoom.{NoRoom}
+use Rattle.simulator.specs.declared.refused.Refused.{Refused}
+use Rattle.simulator.specs.Refusals.{refusal_of}
 use Rattle.simulator.specs.Parts.{Parts, hw_of, seen_of, Ran}
 use Rattle.simulator.specs.Effects.{Same}
 
@@ -69,12 +72,25 @@ pub data Heard (es : List Event) : Line → Outcome → List Event → Type 0 wh
   beyond : (l : Line) → Heard es l (say.No 1) es
   full : (l : Line) → Heard es l say.Over es
 
+-- what is said where a line may be refused
+abbrev pub said_of : Result Outcome Refused → Outcome
+said_of (Ok o) = o
+said_of (Err e) = refusal_of e
+
+abbrev pub reply_of : Result Reply Refused → Reply
+reply_of (Ok r) = r
+reply_of (Err e) = Says (refusal_of e)
+
 -- what becomes of a line: q is the machine after it
 abbrev pub Replied : Line → Parts → Reply → Parts → Type 0
 Replied l p (Says o) q = Ran p q × Heard (seen_of p) l o (seen_of q)
 Replied l p Quiet q = Same p q
 Replied l p (Asks c k) q = Comes (hw_of p) (seen_of p) (Some (c, k)) (hw_of q) (seen_of q) × ((r : Request) × (l ≡ line.Call c r) × (k ≡ call_of r))
-Replied l p Full q = Same p q
+
+-- nothing, where the log has no room for a call
+abbrev pub Answered : Line → Parts → Result Reply NoRoom → Parts → Type 0
+Answered l p (Ok r) q = Replied l p r q
+Answered l p (Err e) q = Same p q
 
 -- `no`, `seed` and `new` print nothing
 abbrev pub prints_of : Line → Bool
@@ -90,8 +106,8 @@ prints_of (line.Seed s) = false
 prints_of line.New = false
 
 -- what is handed to a script for a reply: at most one outcome
-abbrev pub HandedOver : {S : Type 0} → (S → Outcome → S → Type 0) → S → Line → Reply → S → Type 0
-HandedOver handed s l (Says o) t = handed s o t
-HandedOver handed s l Quiet t = t ≡ s
-HandedOver handed s l (Asks c k) t = t ≡ s
-HandedOver handed s l Full t = MatchBool (prints_of l) (handed s say.Over t) (t ≡ s)
+abbrev pub HandedOver : {S : Type 0} → (S → Outcome → S → Type 0) → S → Line → Result Reply NoRoom → S → Type 0
+HandedOver handed s l (Ok (Says o)) t = handed s o t
+HandedOver handed s l (Ok Quiet) t = t ≡ s
+HandedOver handed s l (Ok (Asks c k)) t = t ≡ s
+HandedOver handed s l (Err e) t = MatchBool (prints_of l) (handed s say.Over t) (t ≡ s)

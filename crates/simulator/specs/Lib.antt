@@ -1,10 +1,12 @@
+pub mod Kept
 pub mod Lists
 pub mod Notes
 pub mod Store
 pub mod Parts
 pub mod View
-pub mod Walks
+pub mod Refusals
 pub mod Effects
+pub mod Walks
 pub mod Heard
 pub mod Turns
 pub mod Fit

@@ -1,33 +1,24 @@
--- What a row of the log means, and how many events a row of events still owes.
+-- What an event in the log is, and how many events a row of events still owes.
 -- Assumes nothing.
-use Rattle.std.specs.Prelude.{ℕ, ◌-◌, Bool, true, false, cond, List, [], ◌∷◌, ◌==◌}
-use Rattle.house.specs.declared.Call.{Call}
-use Rattle.house.specs.declared.Call.TheVariants.{Get, Free, Give, Open, Close, Regs, Lend, Recall, End}
-use Rattle.house.specs.declared.Answer.{Answer}
-use Rattle.house.specs.declared.Answer.TheVariants.{Done, Later, No}
+use Rattle.std.specs.Prelude.{ℕ, Bool, true, false, List, [], ◌∷◌}
 use Rattle.house.specs.Event.{Event, Asked, Told, Loaded, Stored, Faulted, Poked, TookFrom, PutInto, Missed, Drained}
-use Rattle.simulator.specs.declared.rows.Note.{Note}
-
-abbrev pub blank : Note
-blank = record { kind = 0; who = 0; a = 0; b = 0; c = 0; d = 0; x = 0 }
-
-abbrev pub asked_of : Note → Call
-asked_of n =
-    cond (n.d == 0) (Get n.a) (cond (n.d == 1) (Free n.a) (cond (n.d == 2) (Give n.a n.b n.c) (cond (n.d == 3) (Open n.a) (cond (n.d == 4) (Close n.a)
-    (cond (n.d == 5) (Regs n.a n.b) (cond (n.d == 6) (Lend n.a n.b n.c false) (cond (n.d == 7) (Lend n.a n.b n.c true) (cond (n.d == 8) (Recall n.a) (End n.a)))))))))
-
-abbrev pub answer_of : ℕ → Answer
-answer_of x = cond (x == 0) Done (cond (x == 1) Later (No (x - 2)))
+use Rattle.simulator.specs.declared.events.Event.{Event as Note}
+use Rattle.simulator.specs.declared.events.Event.TheVariants as note
 
 abbrev pub event_of : Note → Event
-event_of n =
-    cond (n.kind == 0) (Asked n.who (asked_of n)) (cond (n.kind == 1) (Told n.who (asked_of n) (answer_of n.x)) (cond (n.kind == 2) (Loaded n.who n.a n.b n.x)
-    (cond (n.kind == 3) (Stored n.who n.a n.b n.x) (cond (n.kind == 4) (Faulted n.who n.a) (cond (n.kind == 5) (Poked n.who n.a n.b)
-    (cond (n.kind == 6) (TookFrom n.who n.a n.b n.c n.x) (cond (n.kind == 7) (PutInto n.who n.a n.b n.c n.x)
-    (cond (n.kind == 8) (Missed n.who n.a (n.b == 1)) (Drained n.who (n.a == 1))))))))))
+event_of (note.Asked c k) = Asked c k
+event_of (note.Told c k a) = Told c k a
+event_of (note.Loaded c v k x) = Loaded c v k x
+event_of (note.Stored c v k x) = Stored c v k x
+event_of (note.Faulted c v) = Faulted c v
+event_of (note.Poked c v d) = Poked c v d
+event_of (note.Took d p f k x) = TookFrom d p f k x
+event_of (note.Put d p f k x) = PutInto d p f k x
+event_of (note.Missed d p w) = Missed d p w
+event_of (note.Drained d b) = Drained d b
 
 -- is it neither asking nor answering
-unfoldable pub aside : Event → Bool
+abbrev pub aside : Event → Bool
 aside (Asked c k) = false
 aside (Told c k a) = false
 aside (Loaded c v k x) = true

@@ -3,38 +3,41 @@
 use Rattle.std.specs.Prelude.{ℕ, Bool, List, map, length}
 use Rattle.house.specs.Event.{Event}
 use Rattle.house.specs.Machine.{Hw, Up, Mid, Leaf, Steps, Runs}
-use Rattle.simulator.specs.declared.rows.Note.{Note}
-use Rattle.simulator.specs.declared.rows.Device.{Device}
-use Rattle.simulator.specs.Lists.{device_in, place_in, value_in}
+use Rattle.simulator.specs.declared.cached.LowerTable.{LowerTable}
+use Rattle.simulator.specs.declared.cached.PageEntry.{PageEntry}
+use Rattle.simulator.specs.declared.cached.UpperTable.{UpperTable}
+use Rattle.simulator.specs.declared.devices.Device.{Device}
+use Rattle.simulator.specs.declared.events.Event.{Event as Note}
+use Rattle.simulator.specs.declared.spaces.View.{View}
 use Rattle.simulator.specs.Notes.{event_of}
 use Rattle.simulator.specs.Store.{mem_of, space_of, group_of, driver_of}
 
--- what a word says, as an upper table, a lower one, a page
-abbrev pub up_of : ℕ → Up
-up_of w = record { dev = device_in w; table = value_in w }
+-- what is kept, as the machine has it: an upper table, a lower one, a page
+abbrev pub up_of : UpperTable → Up
+up_of u = record { dev = u.device; table = u.table }
 
-abbrev pub mid_of : ℕ → Mid
-mid_of w = record { dev = device_in w; slot = place_in w; table = value_in w }
+abbrev pub mid_of : LowerTable → Mid
+mid_of l = record { dev = l.device; slot = l.slot; table = l.table }
 
-abbrev pub leaf_of : ℕ → Leaf
-leaf_of w = record { dev = device_in w; page = place_in w; entry = value_in w }
+abbrev pub leaf_of : PageEntry → Leaf
+leaf_of e = record { dev = e.device; page = e.page; entry = e.entry }
 
 pub record Parts : Type 0 where
   pub frames : ℕ
   pub devices : List Device
   pub mem : List ℕ
-  pub space : List ℕ
+  pub space : List View
   pub live : Bool
-  pub ups : List ℕ
-  pub mids : List ℕ
-  pub leaves : List ℕ
-  pub flying : List ℕ
+  pub ups : List UpperTable
+  pub mids : List LowerTable
+  pub leaves : List PageEntry
+  pub flying : List PageEntry
   pub left : ℕ
   pub notes : List Note
 
 abbrev pub hw_of : Parts → Hw
 hw_of p =
-    record { frames = p.frames; devices = length p.devices; group = group_of p.devices; driver = driver_of p.devices; mem = mem_of p.mem; space = space_of p.frames p.space; live = p.live; ups = map up_of p.ups; mids = map mid_of p.mids; leaves = map leaf_of p.leaves; flying = map leaf_of p.flying; left = p.left }
+    record { frames = p.frames; devices = length p.devices; group = group_of p.devices; driver = driver_of p.devices; mem = mem_of p.mem; space = space_of p.space; live = p.live; ups = map up_of p.ups; mids = map mid_of p.mids; leaves = map leaf_of p.leaves; flying = map leaf_of p.flying; left = p.left }
 
 abbrev pub seen_of : Parts → List Event
 seen_of p = map event_of p.notes

@@ -1,27 +1,27 @@
 -- Memory and spaces as words: what each word is.
 -- Assumes nothing.
-use Rattle.std.specs.Prelude.{◌≡◌, ℕ, ◌+◌, ◌-◌, ◌*◌, ◌%◌, ◌<◌, cond, List, ◌==◌, nat_le, nat_lt, slice_index, slice_index_or}
+use Rattle.std.specs.Prelude.{◌≡◌, ℕ, ◌+◌, ◌*◌, ◌%◌, ◌<◌, cond, List, nat_lt, slice_index, slice_index_or}
 use Rattle.house.specs.Machine.{Shown, Nothing, Frame, Registers}
 use Rattle.simulator.specs.declared.spaces.View.{View}
 use Rattle.simulator.specs.declared.spaces.View.TheVariants.{Hidden, Page, Regs}
-use Rattle.simulator.specs.declared.rows.Device.{Device}
+use Rattle.simulator.specs.declared.devices.Device.{Device}
 
 -- a frame's words, one after the other; what isn't there is 0
 abbrev pub mem_of : List ℕ → ℕ → ℕ → ℕ
 mem_of ws f k = cond (nat_lt k 512) (slice_index ws (512 * f + k)) 0
 
--- a place: 0 nothing, up to the number n of frames a frame plus 1, beyond 65536 a device plus 65537
-abbrev pub shown_of : ℕ → ℕ → Shown
-shown_of n w = cond (w == 0) Nothing (cond (nat_le w n) (Frame (w - 1)) (cond (nat_le w 65536) Nothing (Registers ((w - 65537) % 32))))
+abbrev pub shown_of : View → Shown
+shown_of Hidden = Nothing
+shown_of (Page f) = Frame f
+shown_of (Regs d) = Registers d
 
-abbrev pub space_of : ℕ → List ℕ → ℕ → ℕ → Shown
-space_of n ws c v = cond (nat_lt c 32) (cond (nat_lt v 1024) (shown_of n (slice_index ws (1024 * c + v))) Nothing) Nothing
+-- 1,024 places for each program; what isn't there shows nothing
+abbrev pub space_of : List View → ℕ → ℕ → Shown
+space_of vs c v = cond (nat_lt c 32) (cond (nat_lt v 1024) (shown_of (slice_index_or vs (1024 * c + v) Hidden)) Nothing) Nothing
 
--- what code calls a view, of n frames
-abbrev pub Viewed : ℕ → View → Shown → Type 0
-Viewed n Hidden s = Nothing ≡ s
-Viewed n (Page f) s = (Frame f ≡ s) × (f < n)
-Viewed n (Regs d) s = Registers d ≡ s
+-- only pages in memory, of n frames, are shown
+abbrev pub PagesBelow : ℕ → List View → Type 0
+PagesBelow n vs = (k f : ℕ) → slice_index_or vs k Hidden ≡ Page f → f < n
 
 abbrev pub no_device : Device
 no_device = record { group = 0; driver = 0 }

@@ -1,13 +1,15 @@
 // The machine: memory, spaces, what the unit keeps, and all that happened, each in lent memory.
-ghost use Rattle.std.specs.Prelude.{◌≡◌, ◌+◌, ◌*◌, ◌≤◌, map, length};
+ghost use Rattle.std.specs.Prelude.{◌+◌, ◌≤◌, map, length};
 ghost use Rattle.simulator.specs.Lists.{newest};
-ghost use Rattle.simulator.specs.Notes.{blank, event_of, owed};
+ghost use Rattle.simulator.specs.Notes.{event_of, owed};
+ghost use Rattle.simulator.specs.Store.{PagesBelow};
 
+use crate::cached::{LowerTable, PageEntry, UpperTable};
+use crate::devices::Device;
 use crate::dice::Dice;
-use crate::kept::Kept;
-use crate::log::Log;
+use crate::events::Event;
+use crate::front::Front;
 use crate::memory::Memory;
-use crate::rows::Device;
 use crate::spaces::Spaces;
 
 mod accesses;
@@ -28,21 +30,16 @@ pub struct Board<'a> {
     spaces: Spaces<'a>,
     devices: &'a [Device],
     live: bool,
-    ups: Kept<'a>,
-    mids: Kept<'a>,
-    leaves: Kept<'a>,
-    flying: Kept<'a>,
+    ups: Front<'a, UpperTable>,
+    mids: Front<'a, LowerTable>,
+    leaves: Front<'a, PageEntry>,
+    flying: Front<'a, PageEntry>,
     left: u64,
-    log: Log<'a>,
-    dice: Dice,
+    log: Front<'a, Event>,
+    // without a seed nothing happens by itself
+    dice: Option<Dice>,
     refusals: u64,
-    ghost words: { length memory.words.now ≡ 512 * memory.frames },
-    ghost frames: { memory.frames ≤ 65536 },
-    ghost places: { length spaces.words.now ≡ 32768 },
     ghost few: { length devices.now ≤ 32 },
-    ghost uppers: { ups.count ≤ length ups.words.all.now },
-    ghost lowers: { mids.count ≤ length mids.words.all.now },
-    ghost pages: { leaves.count ≤ length leaves.words.all.now },
-    ghost accesses: { flying.count ≤ length flying.words.all.now },
-    ghost room: { log.count + left + owed (map event_of (newest blank log.notes.now log.count)) ≤ length log.notes.now },
+    ghost shown: { PagesBelow memory.frames spaces.places.now },
+    ghost room: { log.count + left + owed (map event_of (newest log)) ≤ length log.all.now },
 }

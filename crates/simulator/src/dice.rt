@@ -1,47 +1,27 @@
 // What is chosen by a seed: a linear congruential generator of 64 bits, of which the upper 31 are used.
-ghost use Rattle.std.specs.Prelude.{◌≡◌, ◌/◌, ◌%◌, ◌<◌, true, false};
+ghost use Rattle.std.specs.Prelude.{◌≡◌, ◌/◌, ◌%◌, ◌<◌};
 ghost use Rattle.simulator.specs.Draws.{drawn};
 
 const FACTOR: u64 = 6364136223846793005;
 
 const STEP: u64 = 1442695040888963407;
 
-// Without a seed nothing happens by itself.
-#[derive(Clone, Copy)]
+#[derive(Clone, Copy, PartialEq, Eq, Debug)]
 pub struct Dice {
-    seeded: bool,
     state: u64,
 }
 
 impl Dice {
-    pub fn none() -> Self
-        ensures { result.seeded ≡ false }
-    {
-        Dice {
-            seeded: false,
-            state: 0,
-        }
-    }
-
     pub fn from_seed(seed: u64) -> Self
-        ensures { (result.seeded ≡ true) × (result.state ≡ seed) }
+        ensures { result.state ≡ seed }
     {
-        Dice {
-            seeded: true,
-            state: seed,
-        }
-    }
-
-    pub fn is_seeded(&self) -> bool
-        ensures { result ≡ self.now.seeded }
-    {
-        self.seeded
+        Dice { state: seed }
     }
 
     // The next state.
     pub fn word(&mut self) -> u64
         ensures value { result ≡ drawn self.old.state }
-        ensures state { (self.new.state ≡ result) × (self.new.seeded ≡ self.old.seeded) }
+        ensures state { self.new.state ≡ result }
     {
         self.state = self.state.wrapping_mul(FACTOR).wrapping_add(STEP);
         self.state
@@ -52,7 +32,7 @@ impl Dice {
         requires { 0 < n }
         ensures bound { result < n }
         ensures value { result ≡ drawn self.old.state / 8589934592 % n }
-        ensures state { (self.new.state ≡ drawn self.old.state) × (self.new.seeded ≡ self.old.seeded) }
+        ensures state { self.new.state ≡ drawn self.old.state }
     {
         self.word() / 0x2_0000_0000 % n
     }

@@ -3,19 +3,16 @@ ghost use Rattle.script.specs.declared.outcomes.Outcome.{Outcome as Said};
 
 use script::{Line, Outcome};
 
-// What comes next in a script: a line; one that is none, by its number; or its end.
-#[derive(Clone, Copy)]
-pub enum Item {
-    Line(Line),
-    Bad(u64),
-    End,
-}
+// A line of text that is no line of a script, by its number.
+#[derive(Clone, Copy, PartialEq, Eq, Debug)]
+pub struct BadLine(pub u64);
 
 pub trait Script {
     // what handing over an outcome does
     ghost handed: { Self → Said → Self → Type 0 };
 
-    fn line(&mut self) -> Item;
+    // The next line, until the script is at its end.
+    fn line(&mut self) -> Option<Result<Line, BadLine>>;
 
     fn outcome(&mut self, o: Outcome)
         ensures { handed self.old o self.new };

@@ -1,19 +1,25 @@
 // What is lent to a machine, and whether one can be made of it.
-ghost use Rattle.std.specs.Prelude.{◌≡◌, ℕ, ◌<◌, ◌≤◌, length, MatchBool, MatchResult};
-ghost use Rattle.simulator.specs.Fit.{Fit, Misfit, InRange, OutOfRange};
+ghost use Rattle.std.specs.Prelude.{◌≡◌, ℕ, ◌<◌, ◌≤◌, length, MatchResult, nat_lt, ◌&&◌};
+ghost use Rattle.std.specs.List.{list_all};
+ghost use Rattle.simulator.specs.Fit.{Fit, Misfit};
 
-use crate::rows::{Device, Note};
+use crate::cached::{LowerTable, PageEntry, UpperTable};
+use crate::devices::Device;
+use crate::events::Event;
+use crate::spaces::View;
+use std::error::Error;
+use std::{fmt, io};
 
-// Words of memory, of spaces, of the four lists of what the unit keeps, and rows for the log.
+// Words of memory, places of spaces, what the unit keeps at each level and has under way, and events for the log.
 #[derive(Drop)]
 pub struct Lent<'a> {
     pub memory: &'a mut [u64],
-    pub spaces: &'a mut [u64],
-    pub ups: &'a mut [u64],
-    pub mids: &'a mut [u64],
-    pub leaves: &'a mut [u64],
-    pub flying: &'a mut [u64],
-    pub log: &'a mut [Note],
+    pub spaces: &'a mut [View],
+    pub ups: &'a mut [UpperTable],
+    pub mids: &'a mut [LowerTable],
+    pub leaves: &'a mut [PageEntry],
+    pub flying: &'a mut [PageEntry],
+    pub log: &'a mut [Event],
 }
 
 // Why no machine can be made of it.
@@ -33,16 +39,32 @@ pub enum Unfit {
     Room,
 }
 
-// Are all groups and drivers below 32?
-fn in_range(devices: &[Device]) -> bool
-    ensures { MatchBool result (InRange devices.now) (OutOfRange devices.now) }
-{
-    for d in devices {
-        if d.group > 31 || d.driver > 31 {
-            return false;
+impl fmt::Display for Unfit {
+    fn fmt<W: fmt::Write>(&self, f: &mut fmt::Formatter<W>) -> fmt::Result {
+        match self {
+            Unfit::Frames => write!(f, "memory is not 64 to 65536 frames"),
+            Unfit::Spaces => write!(f, "spaces are not 32 times 1024 places"),
+            Unfit::Devices => write!(f, "more than 32 devices"),
+            Unfit::Numbers => write!(f, "a group or a driver is not below 32"),
+            Unfit::Log => write!(f, "no room for the events of one call"),
+            Unfit::Room => write!(f, "too few words for the keeper"),
         }
     }
-    true
+}
+
+impl Error for Unfit {}
+
+impl From<Unfit> for io::Error {
+    fn from(_e: Unfit) -> io::Error {
+        io::Error::from(io::ErrorKind::InvalidInput)
+    }
+}
+
+// Are all groups and drivers below 32?
+fn in_range(devices: &[Device]) -> bool
+    ensures { result ≡ list_all (λ d. nat_lt d.group 32 && nat_lt d.driver 32) devices.now }
+{
+    devices.iter().all(|d| d.group < 32 && d.driver < 32)
 }
 
 // Can a machine be made of so many words of memory and of spaces, these devices, and so many rows of the log?

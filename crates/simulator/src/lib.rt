@@ -2,15 +2,18 @@
 #![tactic(auto)]
 
 pub mod board;
+pub mod cached;
+pub mod devices;
 pub mod dice;
 pub mod ends;
-pub mod kept;
+pub mod events;
+pub mod front;
+mod kept;
 pub mod lent;
-mod lists;
-pub mod log;
 pub mod memory;
 pub mod plays;
+mod ranges;
+pub mod refused;
 pub mod replies;
-pub mod rows;
 pub mod sim;
 pub mod spaces;

@@ -6,26 +6,27 @@ ghost use Rattle.simulator.specs.Parts.{hw_of, seen_of};
 ghost use Rattle.simulator.specs.View.{parts_of};
 
 use crate::board::Board;
-use crate::ends::{Item, Script};
+use crate::devices::Device;
+use crate::ends::{BadLine, Script};
 use crate::lent::{Lent, Unfit, check};
 use crate::replies::prints;
-use crate::rows::{Device, Note};
 use crate::sim::{Ended, Sim};
 use house::rounds;
 use script::{Line, Outcome};
 
 // All is over: each line that prints is answered so, until another machine is wanted; says whether one is.
+// No `loop`, here and in `next`: a loop is proved to end, and a script need not.
 fn play_over<S: Script>(script: &mut S) -> bool {
     for _ in 0..u64::MAX {
         match script.line() {
-            Item::Line(Line::New) => return true,
-            Item::Line(line) => {
+            Some(Ok(Line::New)) => return true,
+            Some(Ok(line)) => {
                 if prints(line) {
                     script.outcome(Outcome::Over);
                 }
             }
-            Item::Bad(k) => script.outcome(Outcome::BadLine(k)),
-            Item::End => return false,
+            Some(Err(BadLine(k))) => script.outcome(Outcome::BadLine(k)),
+            None => return false,
         }
     }
     false
@@ -40,44 +41,32 @@ pub fn play<S: Script>(board: &mut Board, room: &mut [u64], script: &mut S) -> b
     let mut sim = Sim {
         board,
         script: &mut *script,
-        ended: Ended::Not,
+        ended: None,
     };
     rounds(&mut sim, room, u64::MAX);
     match sim.ended {
-        Ended::New => true,
-        Ended::Full => play_over(script),
-        Ended::Script | Ended::Not => false,
+        Some(Ended::New) => true,
+        Some(Ended::Full) => play_over(script),
+        Some(Ended::Script) | None => false,
     }
 }
 
 // The same on what is lent, if a machine can be made of it.
 pub fn play_on<'a, S: Script>(
-    memory: &'a mut [u64],
-    spaces: &'a mut [u64],
-    ups: &'a mut [u64],
-    mids: &'a mut [u64],
-    leaves: &'a mut [u64],
-    flying: &'a mut [u64],
-    log: &'a mut [Note],
+    lent: Lent<'a>,
     devices: &'a [Device],
     room: &mut [u64],
     script: &mut S,
 ) -> Result<bool, Unfit> {
-    check(memory.len(), spaces.len(), devices, log.len())?;
-    if room.len() < 65536 + memory.len() / 256 {
+    check(
+        lent.memory.len(),
+        lent.spaces.len(),
+        devices,
+        lent.log.len(),
+    )?;
+    if room.len() < 65536 + lent.memory.len() / 256 {
         return Err(Unfit::Room);
     }
-    let mut board = Board::new(
-        Lent {
-            memory,
-            spaces,
-            ups,
-            mids,
-            leaves,
-            flying,
-            log,
-        },
-        devices,
-    );
+    let mut board = Board::new(lent, devices);
     Ok(play(&mut board, room, script))
 }

@@ -13,10 +13,9 @@ pub enum Reply {
     Quiet,
     // a program asks the keeper
     Asks(u32, Call),
-    // the log has no room for a call
-    Full,
 }
 
+// A function, and no `From`: both types are of other crates.
 pub fn call_of(r: Request) -> Call
     ensures { result ≡ call_of r }
 {
@@ -33,7 +32,7 @@ pub fn call_of(r: Request) -> Call
     }
 }
 
-// What is said of an answer.
+// What is said of an answer. A function, and no `From`: both types are of other crates.
 pub fn said(a: Answer) -> Outcome
     ensures { result ≡ answered a }
 {
@@ -48,8 +47,5 @@ pub fn said(a: Answer) -> Outcome
 pub fn prints(line: Line) -> bool
     ensures { result ≡ prints_of line }
 {
-    match line {
-        Line::Refuse { .. } | Line::Seed { .. } | Line::New => false,
-        _ => true,
-    }
+    !matches!(line, Line::Refuse { .. } | Line::Seed { .. } | Line::New)
 }

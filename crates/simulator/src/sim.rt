@@ -2,23 +2,22 @@
 ghost use Rattle.std.specs.Prelude.{◌≡◌, ◌∷◌};
 ghost use Rattle.simulator.specs.Parts.{hw_of, seen_of};
 ghost use Rattle.simulator.specs.View.{parts_of};
-ghost use Rattle.simulator.specs.Heard.{Replied, HandedOver, outcome_of};
+ghost use Rattle.simulator.specs.Heard.{Answered, HandedOver, outcome_of};
 ghost use Rattle.simulator.specs.Turns.{Turned};
 ghost use Rattle.house.specs.Event.{Told};
 ghost use Rattle.house.specs.Meaning.{Explained};
 ghost use Rattle.house.specs.Promise.{can, start_of};
 
 use crate::board::Board;
-use crate::ends::{Item, Script};
+use crate::ends::{BadLine, Script};
+use crate::front::NoRoom;
 use crate::replies::{Reply, prints, said};
 use house::{Answer, Call, Machine, World};
 use script::{Line, Outcome};
 
 // Why there is no call any more.
-#[derive(Clone, Copy)]
+#[derive(Clone, Copy, PartialEq, Eq, Debug)]
 pub enum Ended {
-    // it goes on
-    Not,
     // the script is at its end
     Script,
     // another machine is wanted
@@ -27,67 +26,55 @@ pub enum Ended {
     Full,
 }
 
-// What a line brought: it goes on, a program asks, or all is over.
-#[derive(Clone, Copy)]
-enum Turn {
-    On,
-    Asks(u32, Call),
-    Over,
+impl From<NoRoom> for Ended {
+    fn from(_e: NoRoom) -> Ended {
+        Ended::Full
+    }
 }
 
 #[derive(Drop)]
 pub struct Sim<'a, 'b, 's, S> {
     pub board: &'b mut Board<'a>,
     pub script: &'s mut S,
-    pub ended: Ended,
+    // none while it goes on
+    pub ended: Option<Ended>,
 }
 
 impl<'a, 'b, 's, S: Script> Sim<'a, 'b, 's, S> {
     // One line is played, and what is said of it is handed over.
-    fn play_line(&mut self, line: Line) -> Reply
-        ensures board { Replied line (parts_of self.old.board.now) result (parts_of self.new.board.now) }
+    fn play_line(&mut self, line: Line) -> Result<Reply, NoRoom>
+        ensures board { Answered line (parts_of self.old.board.now) result (parts_of self.new.board.now) }
         ensures script { HandedOver S.Script.handed self.old.script.now line result self.new.script.now }
     {
         let reply = self.board.answer(line);
         match reply {
-            Reply::Says(o) => self.script.outcome(o),
-            Reply::Full => {
+            Ok(Reply::Says(o)) => self.script.outcome(o),
+            Ok(Reply::Quiet | Reply::Asks(..)) => {}
+            Err(NoRoom) => {
                 if prints(line) {
                     self.script.outcome(Outcome::Over);
                 }
             }
-            _ => {}
         }
         reply
     }
 
-    // Tricks, and then the next line of the script.
-    fn turn(&mut self) -> Turn
+    // Tricks, and then the next line of the script: whether a program asks then, or why all is over.
+    fn turn(&mut self) -> Result<Option<(u32, Call)>, Ended>
         ensures { Turned (parts_of self.old.board.now) result (parts_of self.new.board.now) }
     {
         self.board.play();
         match self.script.line() {
-            Item::Line(Line::New) => {
-                self.ended = Ended::New;
-                Turn::Over
-            }
-            Item::Line(line) => match self.play_line(line) {
-                Reply::Says(_) => Turn::On,
-                Reply::Quiet => Turn::On,
-                Reply::Asks(who, call) => Turn::Asks(who, call),
-                Reply::Full => {
-                    self.ended = Ended::Full;
-                    Turn::Over
-                }
+            Some(Ok(Line::New)) => Err(Ended::New),
+            Some(Ok(line)) => match self.play_line(line)? {
+                Reply::Asks(who, call) => Ok(Some((who, call))),
+                Reply::Says(_) | Reply::Quiet => Ok(None),
             },
-            Item::Bad(k) => {
+            Some(Err(BadLine(k))) => {
                 self.script.outcome(Outcome::BadLine(k));
-                Turn::On
+                Ok(None)
             }
-            Item::End => {
-                self.ended = Ended::Script;
-                Turn::Over
-            }
+            None => Err(Ended::Script),
         }
     }
 
@@ -157,9 +144,12 @@ impl<'a, 'b, 's, S: Script> World for Sim<'a, 'b, 's, S> {
     fn next(&mut self) -> Option<(u32, Call)> {
         for _ in 0..u64::MAX {
             match self.turn() {
-                Turn::On => {}
-                Turn::Asks(who, call) => return Some((who, call)),
-                Turn::Over => return None,
+                Ok(Some(asked)) => return Some(asked),
+                Ok(None) => {}
+                Err(why) => {
+                    self.ended = Some(why);
+                    return None;
+                }
             }
         }
         None

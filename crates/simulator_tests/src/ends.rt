@@ -1,10 +1,14 @@
 // A script that fills the log ends well, and another machine goes on.
-ghost use Rattle.std.specs.Prelude.{◌≡◌};
+ghost use Rattle.std.specs.Prelude.{◌≡◌, Some};
 
 use script::{Line, Outcome};
-use simulator::ends::{Item, Script};
+use simulator::cached::{LowerTable, PageEntry, UpperTable};
+use simulator::devices::Device;
+use simulator::ends::{BadLine, Script};
+use simulator::events::Event;
+use simulator::lent::Lent;
 use simulator::plays::play_on;
-use simulator::rows::{Device, Note};
+use simulator::spaces::View;
 use std::test::Fail;
 
 const DEVICES: [Device; 1] = [Device {
@@ -12,36 +16,33 @@ const DEVICES: [Device; 1] = [Device {
     driver: 1,
 }];
 
-// So many loads, then `new`, then five more.
+// So many loads, then `new`, then five more. `last` is what was handed over last.
 #[derive(Drop)]
 struct Loads {
     left: u32,
     faults: u32,
     overs: u32,
-    last: Outcome,
+    last: Option<Outcome>,
 }
 
 impl Script for Loads {
-    ghost handed = { λ s o t. t.last ≡ o };
+    ghost handed = { λ s o t. t.last ≡ Some o };
 
-    fn line(&mut self) -> Item {
-        if self.left == 0 {
-            return Item::End;
-        }
-        self.left -= 1;
+    fn line(&mut self) -> Option<Result<Line, BadLine>> {
+        self.left = self.left.checked_sub(1)?;
         if self.left == 5 {
-            Item::Line(Line::New)
+            Some(Ok(Line::New))
         } else {
-            Item::Line(Line::Load {
+            Some(Ok(Line::Load {
                 who: 0,
                 v: 3,
                 word: 9,
-            })
+            }))
         }
     }
 
     fn outcome(&mut self, o: Outcome) {
-        self.last = o;
+        self.last = Some(o);
         match o {
             Outcome::Fault => self.faults = self.faults.saturating_add(1),
             Outcome::Over => self.overs = self.overs.saturating_add(1),
@@ -53,46 +54,42 @@ impl Script for Loads {
 #[test]
 fn a_full_log_ends_well(rt: HostRuntime) -> Result<(), Fail> {
     let mut memory = [0; 32768];
-    let mut spaces = [0; 32768];
-    let mut ups = [0; 8];
-    let mut mids = [0; 8];
-    let mut leaves = [0; 8];
-    let mut flying = [0; 8];
-    let mut log = [Note::BLANK; 2100];
+    let mut spaces = [View::Hidden; 32768];
+    let mut ups = [UpperTable::default(); 8];
+    let mut mids = [LowerTable::default(); 8];
+    let mut leaves = [PageEntry::default(); 8];
+    let mut flying = [PageEntry::default(); 8];
+    let mut log = [Event::Drained { d: 0, said: false }; 2100];
     let mut room = [0; 65664];
     let mut loads = Loads {
         left: 86,
         faults: 0,
         overs: 0,
-        last: Outcome::NotYet,
+        last: None,
     };
-    let again = play_on(
-        &mut memory,
-        &mut spaces,
-        &mut ups,
-        &mut mids,
-        &mut leaves,
-        &mut flying,
-        &mut log,
-        &DEVICES,
-        &mut room,
-        &mut loads,
-    )?;
+    let lent = Lent {
+        memory: &mut memory,
+        spaces: &mut spaces,
+        ups: &mut ups,
+        mids: &mut mids,
+        leaves: &mut leaves,
+        flying: &mut flying,
+        log: &mut log,
+    };
+    let again = play_on(lent, &DEVICES, &mut room, &mut loads)?;
     assert!(rt; again, "another machine is wanted");
     assert!(rt; loads.faults == 51, "51 events leave no room for a call");
     assert!(rt; loads.overs == 29, "each further line is answered so");
-    let again = play_on(
-        &mut memory,
-        &mut spaces,
-        &mut ups,
-        &mut mids,
-        &mut leaves,
-        &mut flying,
-        &mut log,
-        &DEVICES,
-        &mut room,
-        &mut loads,
-    )?;
+    let lent = Lent {
+        memory: &mut memory,
+        spaces: &mut spaces,
+        ups: &mut ups,
+        mids: &mut mids,
+        leaves: &mut leaves,
+        flying: &mut flying,
+        log: &mut log,
+    };
+    let again = play_on(lent, &DEVICES, &mut room, &mut loads)?;
     assert!(rt; !again, "the script is at its end");
     assert!(rt; loads.faults == 56, "the next machine has an empty log");
     Ok(())

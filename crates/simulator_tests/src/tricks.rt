@@ -2,8 +2,11 @@
 use script::Line;
 use simulator::board::Board;
 use simulator::board::census::Census;
+use simulator::cached::{LowerTable, PageEntry, UpperTable};
+use simulator::devices::Device;
+use simulator::events::Event;
 use simulator::lent::{Lent, check as fits};
-use simulator::rows::{Device, Note};
+use simulator::spaces::View;
 use std::test::Fail;
 
 const DEVICES: [Device; 2] = [
@@ -20,7 +23,7 @@ const DEVICES: [Device; 2] = [
 const SEED: u64 = 7;
 
 // How often each happened.
-#[derive(Clone, Copy)]
+#[derive(Clone, Copy, Default)]
 struct Counts {
     learnt: [u32; 3],
     forgotten: [u32; 3],
@@ -32,24 +35,12 @@ struct Counts {
 }
 
 fn more(n: u32, one: bool) -> u32 {
-    if one { n.saturating_add(1) } else { n }
+    n.saturating_add(u32::from(one))
 }
 
 impl Counts {
-    fn none() -> Counts {
-        Counts {
-            learnt: [0, 0, 0],
-            forgotten: [0, 0, 0],
-            begun: 0,
-            given_up: 0,
-            read: 0,
-            written: 0,
-            missed: 0,
-        }
-    }
-
     // What one trick changed.
-    fn count(&mut self, before: Census, after: Census, latest: u32) {
+    fn count(&mut self, before: Census, after: Census, latest: Option<Event>) {
         let [up, mid, leaf] = self.learnt;
         self.learnt = [
             more(up, after.uppers > before.uppers),
@@ -64,10 +55,11 @@ impl Counts {
         ];
         self.begun = more(self.begun, after.accesses > before.accesses);
         self.given_up = more(self.given_up, after.accesses < before.accesses);
-        let noted = after.events > before.events;
-        self.read = more(self.read, noted && latest == Note::TOOK);
-        self.written = more(self.written, noted && latest == Note::PUT);
-        self.missed = more(self.missed, noted && latest == Note::MISSED);
+        if after.events > before.events {
+            self.read = more(self.read, matches!(latest, Some(Event::Took { .. })));
+            self.written = more(self.written, matches!(latest, Some(Event::Put { .. })));
+            self.missed = more(self.missed, matches!(latest, Some(Event::Missed { .. })));
+        }
     }
 }
 
@@ -75,12 +67,12 @@ impl Counts {
 #[test]
 fn each_trick_is_played(rt: HostRuntime) -> Result<(), Fail> {
     let mut memory = [0; 32768];
-    let mut spaces = [0; 32768];
-    let mut ups = [0; 8];
-    let mut mids = [0; 8];
-    let mut leaves = [0; 8];
-    let mut flying = [0; 8];
-    let mut log = [Note::BLANK; 4096];
+    let mut spaces = [View::Hidden; 32768];
+    let mut ups = [UpperTable::default(); 8];
+    let mut mids = [LowerTable::default(); 8];
+    let mut leaves = [PageEntry::default(); 8];
+    let mut flying = [PageEntry::default(); 8];
+    let mut log = [Event::Drained { d: 0, said: false }; 4096];
     fits(32768, 32768, &DEVICES, 4096)?;
     let mut board = Board::new(
         Lent {
@@ -96,15 +88,11 @@ fn each_trick_is_played(rt: HostRuntime) -> Result<(), Fail> {
     );
     board.start();
     let _ = board.answer(Line::Seed { s: SEED });
-    let mut counts = Counts::none();
+    let mut counts = Counts::default();
     for _ in 0..2000 {
         let before = board.census();
         board.trick();
-        let latest = match board.latest() {
-            Some(n) => n.kind,
-            None => 0,
-        };
-        counts.count(before, board.census(), latest);
+        counts.count(before, board.census(), board.latest());
     }
     let [up, mid, leaf] = counts.learnt;
     assert!(rt; up > 0 && mid > 0 && leaf > 0, "learns at three levels");

@@ -1,13 +1,16 @@
 // What the keeper may ask of the machine.
-ghost use Rattle.std.specs.Prelude.{◌≡◌, ◌+◌, ◌<◌, ◌≤◌, true, ◌∷◌, if◌then◌else◌};
-ghost use Rattle.house.specs.Machine.{Steps, counted, with_mem, put, shows, started, Frame, Registers, Nothing, Drains};
+ghost use Rattle.std.specs.Prelude.{◌≡◌, ℕ, ◌+◌, ◌<◌, ◌≤◌, true, ◌∷◌, length, MatchResult};
+ghost use Rattle.house.specs.Machine.{Steps, counted, with_mem, put, shows, started, Frame, Registers, Nothing};
+ghost use Rattle.simulator.specs.declared.spaces.View.TheVariants.{Page};
 ghost use Rattle.simulator.specs.Notes.{event_of, aside};
 ghost use Rattle.simulator.specs.Store.{shown_of};
-ghost use Rattle.simulator.specs.Parts.{hw_of, seen_of, noted, Goes};
+ghost use Rattle.simulator.specs.Parts.{hw_of, seen_of, noted};
 ghost use Rattle.simulator.specs.View.{parts_of};
 
 use super::Board;
-use crate::rows::Note;
+use crate::events::Event;
+use crate::front::NoRoom;
+use crate::spaces::View;
 
 impl<'a> Board<'a> {
     pub fn frames(&self) -> u32
@@ -22,28 +25,27 @@ impl<'a> Board<'a> {
         self.devices.len() as u32
     }
 
+    // Two functions of a line each: what they share, `get` and `map_or`, is the library's.
     pub fn group(&self, d: u32) -> u32
         ensures { result ≡ (hw_of (parts_of self.now)).group d }
     {
-        if (d as usize) < self.devices.len() {
-            self.devices[d as usize].group % 32
-        } else {
-            0
-        }
+        self.devices
+            .get(d as usize)
+            .map_or(0, |device| device.group % 32)
     }
 
     pub fn driver(&self, d: u32) -> u32
         ensures { result ≡ (hw_of (parts_of self.now)).driver d }
     {
-        if (d as usize) < self.devices.len() {
-            self.devices[d as usize].driver % 32
-        } else {
-            0
-        }
+        self.devices
+            .get(d as usize)
+            .map_or(0, |device| device.driver % 32)
     }
 
     pub fn put(&mut self, frame: u32, word: u32, x: u64)
-        requires { (0 < (hw_of (parts_of self.old)).left) × ((frame < (hw_of (parts_of self.old)).frames) × (word < 512)) }
+        requires left { 0 < (hw_of (parts_of self.old)).left }
+        requires frame { frame < (hw_of (parts_of self.old)).frames }
+        requires word { word < 512 }
         ensures { Steps (counted (with_mem (put frame word x (hw_of (parts_of self.old)).mem) (hw_of (parts_of self.old)))) (seen_of (parts_of self.old)) (hw_of (parts_of self.new)) (seen_of (parts_of self.new)) }
     {
         self.memory.write(frame, word, x);
@@ -52,8 +54,11 @@ impl<'a> Board<'a> {
     }
 
     pub fn get(&mut self, frame: u32, word: u32) -> u64
-        requires { (0 < (hw_of (parts_of self.old)).left) × ((frame < (hw_of (parts_of self.old)).frames) × (word < 512)) }
-        ensures { (result ≡ (hw_of (parts_of self.old)).mem frame word) × (Steps (counted (hw_of (parts_of self.old))) (seen_of (parts_of self.old)) (hw_of (parts_of self.new)) (seen_of (parts_of self.new))) }
+        requires left { 0 < (hw_of (parts_of self.old)).left }
+        requires frame { frame < (hw_of (parts_of self.old)).frames }
+        requires word { word < 512 }
+        ensures word { result ≡ (hw_of (parts_of self.old)).mem frame word }
+        ensures steps { Steps (counted (hw_of (parts_of self.old))) (seen_of (parts_of self.old)) (hw_of (parts_of self.new)) (seen_of (parts_of self.new)) }
     {
         let x = self.memory.word(frame as u64, word);
         self.left -= 1;
@@ -61,35 +66,46 @@ impl<'a> Board<'a> {
         x
     }
 
-    // A place shows what a word of spaces says.
-    fn place(&mut self, who: u32, v: u32, w: u64)
-        requires { (0 < (hw_of (parts_of self.old)).left) × ((who < 32) × (v < 1024)) }
-        ensures { Steps (counted (shows who v (shown_of (parts_of self.old).frames w) (hw_of (parts_of self.old)))) (seen_of (parts_of self.old)) (hw_of (parts_of self.new)) (seen_of (parts_of self.new)) }
+    // A place shows something else.
+    fn place(&mut self, who: u32, v: u32, view: View)
+        requires left { 0 < (hw_of (parts_of self.old)).left }
+        requires who { who < 32 }
+        requires v { v < 1024 }
+        requires frame { (f : ℕ) → view ≡ Page f → f < (parts_of self.old).frames }
+        ensures { Steps (counted (shows who v (shown_of view) (hw_of (parts_of self.old)))) (seen_of (parts_of self.old)) (hw_of (parts_of self.new)) (seen_of (parts_of self.new)) }
     {
-        self.spaces.set(who, v, w);
+        self.spaces.set(who, v, view);
         self.left -= 1;
         self.play();
     }
 
     pub fn show(&mut self, who: u32, v: u32, frame: u32)
-        requires { (0 < (hw_of (parts_of self.old)).left) × ((who < 32) × ((v < 1024) × (frame < (hw_of (parts_of self.old)).frames))) }
+        requires left { 0 < (hw_of (parts_of self.old)).left }
+        requires who { who < 32 }
+        requires v { v < 1024 }
+        requires frame { frame < (hw_of (parts_of self.old)).frames }
         ensures { Steps (counted (shows who v (Frame frame) (hw_of (parts_of self.old)))) (seen_of (parts_of self.old)) (hw_of (parts_of self.new)) (seen_of (parts_of self.new)) }
     {
-        self.place(who, v, frame as u64 + 1);
+        self.place(who, v, View::Page(frame));
     }
 
     pub fn show_registers(&mut self, who: u32, v: u32, d: u32)
-        requires { (0 < (hw_of (parts_of self.old)).left) × ((who < 32) × ((v < 1024) × (d < (hw_of (parts_of self.old)).devices))) }
+        requires left { 0 < (hw_of (parts_of self.old)).left }
+        requires who { who < 32 }
+        requires v { v < 1024 }
+        requires d { d < (hw_of (parts_of self.old)).devices }
         ensures { Steps (counted (shows who v (Registers d) (hw_of (parts_of self.old)))) (seen_of (parts_of self.old)) (hw_of (parts_of self.new)) (seen_of (parts_of self.new)) }
     {
-        self.place(who, v, d as u64 + 65537);
+        self.place(who, v, View::Regs(d));
     }
 
     pub fn hide(&mut self, who: u32, v: u32)
-        requires { (0 < (hw_of (parts_of self.old)).left) × ((who < 32) × (v < 1024)) }
+        requires left { 0 < (hw_of (parts_of self.old)).left }
+        requires who { who < 32 }
+        requires v { v < 1024 }
         ensures { Steps (counted (shows who v Nothing (hw_of (parts_of self.old)))) (seen_of (parts_of self.old)) (hw_of (parts_of self.new)) (seen_of (parts_of self.new)) }
     {
-        self.place(who, v, 0);
+        self.place(who, v, View::Hidden);
     }
 
     pub fn start(&mut self)
@@ -102,14 +118,15 @@ impl<'a> Board<'a> {
     }
 
     // Notes what is neither asked nor answered, where there is room beyond what is owed.
-    pub fn note_aside(&mut self, n: Note) -> bool
-        requires { aside (event_of n) ≡ true }
-        ensures { parts_of self.new ≡ noted (if result then n ∷ (parts_of self.old).notes else (parts_of self.old).notes) (parts_of self.old) }
+    pub fn note_aside(&mut self, e: Event) -> Result<(), NoRoom>
+        requires { aside (event_of e) ≡ true }
+        ensures parts { MatchResult result (λ _. parts_of self.new ≡ noted (e ∷ (parts_of self.old).notes) (parts_of self.old)) (λ _. parts_of self.new ≡ parts_of self.old) }
+        ensures room { MatchResult result (λ _. self.old.log.count + self.old.left + 1 < length self.old.log.all.now) (λ _. length self.old.log.all.now ≤ self.old.log.count + self.old.left + 1) }
     {
         if self.log.room() as u64 <= self.left + 1 {
-            return false;
+            return Err(NoRoom);
         }
-        self.log.add(n);
-        true
+        self.log.push(e);
+        Ok(())
     }
 }

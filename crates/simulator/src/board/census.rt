@@ -1,12 +1,12 @@
 // What can be counted of a machine.
-ghost use Rattle.std.specs.Prelude.{◌≡◌, ◌-◌, ◌<◌, MatchOption, slice_index_or};
-ghost use Rattle.simulator.specs.Notes.{blank};
+ghost use Rattle.std.specs.Prelude.{◌≡◌, slice_get};
+ghost use Rattle.simulator.specs.View.{parts_of};
 
 use super::Board;
-use crate::rows::Note;
+use crate::events::Event;
 
 // How many upper tables, lower tables and pages are kept, accesses under way, and events noted.
-#[derive(Clone, Copy)]
+#[derive(Clone, Copy, PartialEq, Eq, Debug)]
 pub struct Census {
     pub uppers: usize,
     pub lowers: usize,
@@ -17,21 +17,24 @@ pub struct Census {
 
 impl<'a> Board<'a> {
     pub fn census(&self) -> Census
-        ensures lists { (result.uppers ≡ self.now.ups.count) × ((result.lowers ≡ self.now.mids.count) × ((result.pages ≡ self.now.leaves.count) × (result.accesses ≡ self.now.flying.count))) }
+        ensures uppers { result.uppers ≡ self.now.ups.count }
+        ensures lowers { result.lowers ≡ self.now.mids.count }
+        ensures pages { result.pages ≡ self.now.leaves.count }
+        ensures accesses { result.accesses ≡ self.now.flying.count }
         ensures events { result.events ≡ self.now.log.count }
     {
         Census {
-            uppers: self.ups.count(),
-            lowers: self.mids.count(),
-            pages: self.leaves.count(),
-            accesses: self.flying.count(),
-            events: self.log.count(),
+            uppers: self.ups.len(),
+            lowers: self.mids.len(),
+            pages: self.leaves.len(),
+            accesses: self.flying.len(),
+            events: self.log.len(),
         }
     }
 
     // The latest event.
-    pub fn latest(&self) -> Option<Note>
-        ensures { MatchOption result (self.now.log.count ≡ 0) (λ n. (0 < self.now.log.count) × (n ≡ slice_index_or self.now.log.notes.now (self.now.log.count - 1) blank)) }
+    pub fn latest(&self) -> Option<Event>
+        ensures { result ≡ slice_get (parts_of self.now).notes 0 }
     {
         self.log.latest()
     }

@@ -6,20 +6,24 @@ ghost use Rattle.simulator.specs.Parts.{hw_of, seen_of, Goes};
 ghost use Rattle.simulator.specs.View.{parts_of};
 
 use super::Board;
-use crate::rows::Note;
+use crate::events::Event;
 
 impl<'a> Board<'a> {
     // Says no as often as it was told to, and with a seed one time in four by itself.
     fn refuses(&mut self) -> bool
         ensures parts { parts_of self.new ≡ parts_of self.old }
-        ensures told { ((0 < self.old.refusals → result ≡ true)) × ((self.old.refusals ≡ 0 → self.old.dice.seeded ≡ false → result ≡ false)) }
+        ensures told { 0 < self.old.refusals → result ≡ true }
+        ensures unseeded { self.old.refusals ≡ 0 → self.old.dice ≡ None → result ≡ false }
         ensures left { self.new.refusals ≡ self.old.refusals - 1 }
     {
         if self.refusals > 0 {
             self.refusals -= 1;
             return true;
         }
-        self.dice.is_seeded() && self.dice.below(4) == 0
+        match &mut self.dice {
+            Some(dice) => dice.below(4) == 0,
+            None => false,
+        }
     }
 
     // Notes what is said to a drain, which is one asking less.
@@ -28,7 +32,7 @@ impl<'a> Board<'a> {
         ensures hw { hw_of (parts_of self.new) ≡ counted (hw_of (parts_of self.old)) }
         ensures seen { seen_of (parts_of self.new) ≡ Drained d said ∷ seen_of (parts_of self.old) }
     {
-        self.log.add(Note::drained(d, said));
+        self.log.push(Event::Drained { d, said });
         self.left -= 1;
     }
 
@@ -37,14 +41,15 @@ impl<'a> Board<'a> {
         ensures goes { Goes (parts_of self.old) (parts_of self.new) }
         ensures forgot { Forgotten d (hw_of (parts_of self.new)) }
     {
-        self.ups.forget(d as u64);
-        self.mids.forget(d as u64);
-        self.leaves.forget(d as u64);
-        self.flying.forget(d as u64);
+        self.ups.forget(d);
+        self.mids.forget(d);
+        self.leaves.forget(d);
+        self.flying.forget(d);
     }
 
     pub fn drain(&mut self, d: u32) -> bool
-        requires { (0 < (hw_of (parts_of self.old)).left) × (d < (hw_of (parts_of self.old)).devices) }
+        requires left { 0 < (hw_of (parts_of self.old)).left }
+        requires d { d < (hw_of (parts_of self.old)).devices }
         ensures { Drains d (hw_of (parts_of self.old)) (seen_of (parts_of self.old)) result (hw_of (parts_of self.new)) (seen_of (parts_of self.new)) }
     {
         self.play();

@@ -1,17 +1,16 @@
 // A machine as at the start.
-ghost use Rattle.std.specs.Prelude.{◌≡◌, ℕ, ◌*◌, ◌/◌, ◌<◌, ◌≤◌, false, [], length, slice_index};
+ghost use Rattle.std.specs.Prelude.{◌≡◌, ℕ, ◌*◌, ◌/◌, ◌<◌, [], length, slice_index};
 ghost use Rattle.house.specs.Machine.{AtStart};
 ghost use Rattle.simulator.specs.Fit.{Fit};
 ghost use Rattle.simulator.specs.Parts.{hw_of, seen_of};
 ghost use Rattle.simulator.specs.View.{parts_of};
 
 use super::Board;
-use crate::dice::Dice;
-use crate::kept::Kept;
+use super::asks::ASKINGS;
+use crate::devices::Device;
+use crate::front::Front;
 use crate::lent::Lent;
-use crate::log::Log;
 use crate::memory::Memory;
-use crate::rows::Device;
 use crate::spaces::Spaces;
 
 impl<'a> Board<'a> {
@@ -20,7 +19,8 @@ impl<'a> Board<'a> {
         ensures hw { AtStart (hw_of (parts_of result)) }
         ensures frames { (parts_of result).frames ≡ length lent.entry.memory.now / 512 }
         ensures rows { (parts_of result).devices ≡ devices.now }
-        ensures quiet { (result.dice.seeded ≡ false) × (result.refusals ≡ 0) }
+        ensures unseeded { result.dice ≡ None }
+        ensures willing { result.refusals ≡ 0 }
         ensures filled { (k : ℕ) → k < 512 * (parts_of result).frames → 0 < slice_index (parts_of result).mem k }
         ensures seen { seen_of (parts_of result) ≡ [] }
     {
@@ -38,13 +38,13 @@ impl<'a> Board<'a> {
             spaces: Spaces::new(spaces),
             devices,
             live: false,
-            ups: Kept::new(ups),
-            mids: Kept::new(mids),
-            leaves: Kept::new(leaves),
-            flying: Kept::new(flying),
-            left: 2048,
-            log: Log::new(log),
-            dice: Dice::none(),
+            ups: Front::new(ups),
+            mids: Front::new(mids),
+            leaves: Front::new(leaves),
+            flying: Front::new(flying),
+            left: ASKINGS,
+            log: Front::new(log),
+            dice: None,
             refusals: 0,
         }
     }

@@ -1,73 +1,61 @@
-// What programs do with their spaces while nobody is served.
-ghost use Rattle.std.specs.Prelude.{◌≡◌, ◌+◌, ◌*◌, ◌<◌, ◌≤◌};
+// What programs do with their spaces while nobody is served. Loading and storing are two functions: they share two arms of a line each.
+ghost use Rattle.std.specs.Prelude.{◌≡◌, ◌*◌, ◌<◌};
 ghost use Rattle.script.specs.declared.forms.Line.TheVariants.{Load, Store};
 ghost use Rattle.simulator.specs.Parts.{seen_of, Ran};
-ghost use Rattle.simulator.specs.Heard.{Heard};
+ghost use Rattle.simulator.specs.Heard.{Heard, said_of};
 ghost use Rattle.simulator.specs.View.{parts_of};
 
 use super::Board;
-use crate::rows::Note;
+use crate::events::Event;
+use crate::ranges::in_space;
+use crate::refused::Refused;
 use crate::spaces::View;
 use script::Outcome;
 
 impl<'a> Board<'a> {
     // A program reads a word at a place.
-    pub fn load(&mut self, who: u32, v: u32, word: u32) -> Outcome
+    pub fn load(&mut self, who: u32, v: u32, word: u32) -> Result<Outcome, Refused>
         ensures ran { Ran (parts_of self.old) (parts_of self.new) }
-        ensures heard { Heard (seen_of (parts_of self.old)) (Load who v word) result (seen_of (parts_of self.new)) }
+        ensures heard { Heard (seen_of (parts_of self.old)) (Load who v word) (said_of result) (seen_of (parts_of self.new)) }
     {
-        if who > 31 || v > 1023 || word > 511 {
-            return Outcome::No(1);
-        }
-        let frames = self.memory.frames();
-        match self.spaces.view(who, v, frames) {
+        in_space(who, v, word)?;
+        match self.spaces.view(who, v) {
             View::Hidden => {
-                if self.note_aside(Note::faulted(who, v)) {
-                    return Outcome::Fault;
-                }
+                self.note_aside(Event::Faulted { who, v })?;
+                Ok(Outcome::Fault)
             }
             View::Regs(d) => {
-                if self.note_aside(Note::poked(who, v, d)) {
-                    return Outcome::Poked;
-                }
+                self.note_aside(Event::Poked { who, v, d })?;
+                Ok(Outcome::Poked)
             }
-            View::Page(f) => {
-                let x = self.memory.word(f as u64, word);
-                if self.note_aside(Note::loaded(who, v, word, x)) {
-                    return Outcome::Loaded(x);
-                }
+            View::Page(frame) => {
+                let x = self.memory.word(frame as u64, word);
+                self.note_aside(Event::Loaded { who, v, word, x })?;
+                Ok(Outcome::Loaded(x))
             }
         }
-        Outcome::Over
     }
 
     // A program writes a word at a place.
-    pub fn store(&mut self, who: u32, v: u32, word: u32, x: u64) -> Outcome
+    pub fn store(&mut self, who: u32, v: u32, word: u32, x: u64) -> Result<Outcome, Refused>
         ensures ran { Ran (parts_of self.old) (parts_of self.new) }
-        ensures heard { Heard (seen_of (parts_of self.old)) (Store who v word x) result (seen_of (parts_of self.new)) }
+        ensures heard { Heard (seen_of (parts_of self.old)) (Store who v word x) (said_of result) (seen_of (parts_of self.new)) }
     {
-        if who > 31 || v > 1023 || word > 511 {
-            return Outcome::No(1);
-        }
-        let frames = self.memory.frames();
-        match self.spaces.view(who, v, frames) {
+        in_space(who, v, word)?;
+        match self.spaces.view(who, v) {
             View::Hidden => {
-                if self.note_aside(Note::faulted(who, v)) {
-                    return Outcome::Fault;
-                }
+                self.note_aside(Event::Faulted { who, v })?;
+                Ok(Outcome::Fault)
             }
             View::Regs(d) => {
-                if self.note_aside(Note::poked(who, v, d)) {
-                    return Outcome::Poked;
-                }
+                self.note_aside(Event::Poked { who, v, d })?;
+                Ok(Outcome::Poked)
             }
-            View::Page(f) => {
-                if self.note_aside(Note::stored(who, v, word, x)) {
-                    self.memory.write(f, word, x);
-                    return Outcome::Stored;
-                }
+            View::Page(frame) => {
+                self.note_aside(Event::Stored { who, v, word, x })?;
+                self.memory.write(frame, word, x);
+                Ok(Outcome::Stored)
             }
         }
-        Outcome::Over
     }
 }

@@ -1,24 +1,26 @@
 // The way through the tables in memory.
-ghost use Rattle.std.specs.Prelude.{◌≡◌, ◌+◌, ◌*◌, ◌<◌, ◌≤◌, IfSome};
+ghost use Rattle.std.specs.Prelude.{◌≡◌, ◌*◌, ◌/◌, ◌<◌, ◌≤◌, IfSome};
 ghost use Rattle.house.specs.Machine.{walked};
 ghost use Rattle.simulator.specs.Parts.{hw_of};
 ghost use Rattle.simulator.specs.View.{parts_of};
 ghost use Rattle.simulator.specs.Walks.{Path};
 
 use super::Board;
+use crate::cached::{LowerTable, PageEntry, UpperTable};
 
-// A page's entry, and the tables on the way to it.
-#[derive(Clone, Copy)]
+// A page's entry, and the tables on the way to it, as the IOMMU caches them.
+#[derive(Clone, Copy, PartialEq, Eq, Debug)]
 pub struct Way {
-    pub top: u64,
-    pub low: u64,
-    pub entry: u64,
+    pub upper: UpperTable,
+    pub lower: LowerTable,
+    pub page: PageEntry,
 }
 
 impl<'a> Board<'a> {
     // What the tables in memory say of a page, 0 if nothing.
     pub fn walk(&self, d: u32, p: u32) -> u64
-        requires { (d < 512) × (p < 262144) }
+        requires d { d < 512 }
+        requires p { p < 262144 }
         ensures { result ≡ walked (hw_of (parts_of self.now)) d p }
     {
         if !self.live {
@@ -37,8 +39,13 @@ impl<'a> Board<'a> {
 
     // The way to a page, if its tables and its frame are in memory.
     pub fn way(&self, d: u32, p: u32) -> Option<Way>
-        requires { (d < 512) × (p < 262144) }
-        ensures { IfSome result (λ w. Path (parts_of self.now) d p w.top w.low w.entry × (w.top < 65536) × (w.low < 65536) × (w.entry ≤ 2 * (parts_of self.now).frames)) }
+        requires d { d < 512 }
+        requires p { p < 262144 }
+        ensures path { IfSome result (λ w. Path (parts_of self.now) d p w.upper.table w.lower.table w.page.entry) }
+        ensures upper { IfSome result (λ w. w.upper.device ≡ d) }
+        ensures lower { IfSome result (λ w. (w.lower.device ≡ d) × (w.lower.slot ≡ p / 512)) }
+        ensures page { IfSome result (λ w. (w.page.device ≡ d) × (w.page.page ≡ p)) }
+        ensures within { IfSome result (λ w. (w.upper.table < 65536) × (w.lower.table < 65536) × (w.page.entry ≤ 2 * (parts_of self.now).frames)) }
     {
         if !self.live {
             return None;
@@ -56,10 +63,20 @@ impl<'a> Board<'a> {
         if entry == 0 || entry > 2 * frames {
             return None;
         }
-        Some(Way {
-            top: top - 1,
-            low: low - 1,
+        let upper = UpperTable {
+            device: d,
+            table: top - 1,
+        };
+        let lower = LowerTable {
+            device: d,
+            slot: p / 512,
+            table: low - 1,
+        };
+        let page = PageEntry {
+            device: d,
+            page: p,
             entry,
-        })
+        };
+        Some(Way { upper, lower, page })
     }
 }

@@ -4,4 +4,4 @@ use Rattle.simulator.proofs.board.Board.put.Goals as goal
 
 pub returns : goal.returns
 returns c =
-    put_goes (parts_of c.args.self.now) c.write.new.self.frames c.write.new.self.words.now c.args.frame c.args.word c.args.x (parts_of c.play.new.self) c.args.self.now.words c.requires.1.0 c.requires.1.1 c.write.ensures.frames c.write.ensures.words c.play.ensures.goes
+    put_goes (parts_of c.args.self.now) c.write.new.self.frames c.write.new.self.words.now c.args.frame c.args.word c.args.x (parts_of c.play.new.self) c.args.self.now.memory.whole c.requires.frame c.requires.word c.write.ensures.frames c.write.ensures.words c.play.ensures.goes

@@ -1,42 +1,32 @@
-use Rattle.std.proofs.Common.{ap, arith}
+use Rattle.std.proofs.Common.{refl, sym}
 use Rattle.script.specs.declared.forms.Line.TheVariants as line
-use Rattle.simulator.specs.Notes.{aside}
 use Rattle.simulator.specs.View.{parts_of}
-use Rattle.simulator.proofs.Lines.{beyond_range, over_same, faults_at_store, pokes_at_store, store_stores}
+use Rattle.simulator.proofs.Lines.{refused_at, unchanged, faults_at_store, pokes_at_store, store_stores}
 use Rattle.simulator.proofs.board.Board.store.Goals as goal
 
-pub returns-then-who-gt31 : goal.returns-then-who-gt31
-returns-then-who-gt31 c = let z = beyond_range (parts_of c.args.self.now) (line.Store c.args.who c.args.v c.args.word c.args.x) in record { ran = z.0; heard = z.1 }
+pub returns-in_err-in_space : goal.returns-in_err-in_space
+returns-in_err-in_space c = let z = refused_at (parts_of c.args.self.now) (parts_of c.args.self.now) (line.Store c.args.who c.args.v c.args.word c.args.x) c.from_residual.result c.from_residual.ensures.0 (refl, refl) in record { ran = z.0; heard = z.1 }
 
-pub note_aside-requires : goal.note_aside-requires
-unfolding aside
-note_aside-requires c = ap aside c.faulted.ensures
+pub returns-in_err-note_aside-in-Hidden : goal.returns-in_err-note_aside-in-Hidden
+returns-in_err-note_aside-in-Hidden c = let z = refused_at (parts_of c.args.self.now) (parts_of c.note_aside.new.self) (line.Store c.args.who c.args.v c.args.word c.args.x) c.from_residual-in_err-note_aside-in-Hidden.result c.from_residual-in_err-note_aside-in-Hidden.ensures.0 (unchanged _ _ c.in_err-note_aside-in-Hidden.ensures.parts) in record { ran = z.0; heard = z.1 }
 
-pub note_aside-requires-in-Regs : goal.note_aside-requires-in-Regs
-unfolding aside
-note_aside-requires-in-Regs c = ap aside c.poked.ensures
+pub returns-in_err-note_aside-in-Regs : goal.returns-in_err-note_aside-in-Regs
+returns-in_err-note_aside-in-Regs c = let z = refused_at (parts_of c.args.self.now) (parts_of c.note_aside-in-Regs.new.self) (line.Store c.args.who c.args.v c.args.word c.args.x) c.from_residual-in_err-note_aside-in-Regs.result c.from_residual-in_err-note_aside-in-Regs.ensures.0 (unchanged _ _ c.in_err-note_aside-in-Regs.ensures.parts) in record { ran = z.0; heard = z.1 }
 
-pub note_aside-requires-in-Page : goal.note_aside-requires-in-Page
-unfolding aside
-note_aside-requires-in-Page c = ap aside c.stored.ensures
+pub returns-in_err-note_aside-in-Page : goal.returns-in_err-note_aside-in-Page
+returns-in_err-note_aside-in-Page c = let z = refused_at (parts_of c.args.self.now) (parts_of c.note_aside-in-Page.new.self) (line.Store c.args.who c.args.v c.args.word c.args.x) c.from_residual-in_err-note_aside-in-Page.result c.from_residual-in_err-note_aside-in-Page.ensures.0 (unchanged _ _ c.in_err-note_aside-in-Page.ensures.parts) in record { ran = z.0; heard = z.1 }
 
-pub returns-then-note_aside : goal.returns-then-note_aside
-returns-then-note_aside c =
-    let z = faults_at_store (parts_of c.args.self.now) (parts_of c.note_aside.new.self) c.faulted.result c.args.who c.args.v c.args.word c.frames-frames.result c.if-note_aside.ensures (omega arith) (omega arith) (omega arith) c.frames-frames.ensures c.args.x c.in-Hidden.ensures c.faulted.ensures in record { ran = z.0; heard = z.1 }
+pub returns-in_ok-note_aside-in-Hidden : goal.returns-in_ok-note_aside-in-Hidden
+returns-in_ok-note_aside-in-Hidden c =
+    let s = c.in_ok-in_space.ensures in
+    let z = faults_at_store (parts_of c.args.self.now) (parts_of c.note_aside.new.self) c.args.who c.args.v c.args.word c.args.x s.0 s.1 (sym c.in-Hidden.ensures.shown) c.in_ok-note_aside-in-Hidden.ensures.parts in record { ran = z.0; heard = z.1 }
 
-pub returns-then-note_aside-2 : goal.returns-then-note_aside-2
-returns-then-note_aside-2 c =
-    let z = pokes_at_store (parts_of c.args.self.now) (parts_of c.note_aside-in-Regs.new.self) c.poked.result c.args.who c.args.v c.args.word c.frames-frames.result c.if-note_aside-2.ensures (omega arith) (omega arith) (omega arith) c.frames-frames.ensures c.args.x c.in-Regs.d c.in-Regs.ensures c.poked.ensures in record { ran = z.0; heard = z.1 }
+pub returns-in_ok-note_aside-in-Regs : goal.returns-in_ok-note_aside-in-Regs
+returns-in_ok-note_aside-in-Regs c =
+    let s = c.in_ok-in_space.ensures in
+    let z = pokes_at_store (parts_of c.args.self.now) (parts_of c.note_aside-in-Regs.new.self) c.args.who c.args.v c.args.word c.args.x c.in-Regs.d s.0 s.1 (sym c.in-Regs.ensures.shown) c.in_ok-note_aside-in-Regs.ensures.parts in record { ran = z.0; heard = z.1 }
 
-pub returns-then-note_aside-3 : goal.returns-then-note_aside-3
-returns-then-note_aside-3 c =
-    let z = store_stores (parts_of c.args.self.now) (parts_of c.note_aside-in-Page.new.self) c.stored.result c.args.who c.args.v c.args.word c.frames-frames.result c.if-note_aside-3.ensures (omega arith) (omega arith) (omega arith) c.frames-frames.ensures c.in-Page.f c.args.x c.write.new.self.frames c.write.new.self.words.now c.in-Page.ensures.0 c.stored.ensures c.ranges.x.fits c.args.self.now.words (omega (arith, c.in-Page.ensures.1, c.frames-frames.ensures)) c.write.ensures.frames c.write.ensures.words in record { ran = z.0; heard = z.1 }
-
-pub returns-else-note_aside : goal.returns-else-note_aside
-returns-else-note_aside c = let z = over_same (parts_of c.args.self.now) (parts_of c.note_aside.new.self) (line.Store c.args.who c.args.v c.args.word c.args.x) c.if-note_aside.ensures in record { ran = z.0; heard = z.1 }
-
-pub returns-else-note_aside-2 : goal.returns-else-note_aside-2
-returns-else-note_aside-2 c = let z = over_same (parts_of c.args.self.now) (parts_of c.note_aside-in-Regs.new.self) (line.Store c.args.who c.args.v c.args.word c.args.x) c.if-note_aside-2.ensures in record { ran = z.0; heard = z.1 }
-
-pub returns-else-note_aside-3 : goal.returns-else-note_aside-3
-returns-else-note_aside-3 c = let z = over_same (parts_of c.args.self.now) (parts_of c.note_aside-in-Page.new.self) (line.Store c.args.who c.args.v c.args.word c.args.x) c.if-note_aside-3.ensures in record { ran = z.0; heard = z.1 }
+pub returns-in_ok-note_aside-in-Page : goal.returns-in_ok-note_aside-in-Page
+returns-in_ok-note_aside-in-Page c =
+    let s = c.in_ok-in_space.ensures in
+    let z = store_stores (parts_of c.args.self.now) (parts_of c.note_aside-in-Page.new.self) c.args.who c.args.v c.args.word c.in-Page.frame c.args.x c.write.new.self.frames c.write.new.self.words.now s.0 s.1 s.2 c.ranges.x.fits (sym c.in-Page.ensures.shown) c.args.self.now.memory.whole (c.args.self.now.shown _ _ (sym c.in-Page.ensures.view)) c.in_ok-note_aside-in-Page.ensures.parts c.write.ensures.frames c.write.ensures.words in record { ran = z.0; heard = z.1 }
