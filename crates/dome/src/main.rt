@@ -52,7 +52,7 @@ fn main(rt: HostRuntime) -> io::Result<()> {
         Lines::new(BufReader::new(rt.alloc(), rt.stdin())?),
         BufWriter::new(rt.alloc(), rt.stdout())?,
     );
-    // No `loop`: it is proved to end, and a script need not.
+    // Counted: without a count a loop until the script ends needs a `Wait` bound, and no function here may have one.
     for _ in 0..u64::MAX {
         let lent = Lent {
             memory: &mut memory,

@@ -174,7 +174,12 @@ keeps_refused k b r =
       forgot = a.forgot;
     }) tt
 
--- the number of a refusal is none that says yes
+-- by the number that the meaning has for it
+pub keeps_why : {room : List ℕ} {who : ℕ} {c : Call} {h : Hw} {es : List Event} (k : ℕ) → T (can c) → (b : Begins room who c h es) → Meaning.why b.holds.state who c ≡ k → 0 < k → Keeps room Quiet h (Told who c (No k) ∷ es)
+keeps_why {room} {who} {c} {h} {es} k t b e lt =
+    keeps_refused k b (subst (λ (z : ℕ). Run can (start_of h) es b.holds.state (Over who c (No z))) e (Meaning.refused b.holds.run t (subst (λ (z : ℕ). 0 < z) (sym e) lt)))
+
+-- a reason's number is none that says yes
 numbered : (e : Refusal) → 0 < number_of e
 numbered OutOfRange = omega arith
 numbered NoPage = omega arith
@@ -186,7 +191,6 @@ numbered NoFrame = omega arith
 numbered NotPermitted = omega arith
 numbered NotBuilt = omega arith
 
--- by the number that the meaning has for it
-pub keeps_why : {room : List ℕ} {who : ℕ} {c : Call} {h : Hw} {es : List Event} (e : Refusal) (b : Begins room who c h es) → Meaning.why b.holds.state who c ≡ number_of e → Keeps room Quiet h (Told who c (No (number_of e)) ∷ es)
-keeps_why {who = who} {c = c} {h = h} {es = es} e b q =
-    keeps_refused (number_of e) b (subst (λ (z : ℕ). Run can (start_of h) es b.holds.state (Over who c (No z))) q (Meaning.refused b.holds.run (all_built c) (subst (λ (z : ℕ). 0 < z) (sym q) (numbered e))))
+-- by the reason, each call being built
+pub keeps_reason : {room : List ℕ} {who : ℕ} {c : Call} {h : Hw} {es : List Event} (e : Refusal) (b : Begins room who c h es) → Meaning.why b.holds.state who c ≡ number_of e → Keeps room Quiet h (Told who c (No (number_of e)) ∷ es)
+keeps_reason {c = c} e b q = keeps_why (number_of e) (all_built c) b q (numbered e)

@@ -39,7 +39,7 @@ use Rattle.house.proofs.Keeping.{kept_uses}
 use Rattle.house.proofs.Shutting.{loosened_close, shutting_state}
 use Rattle.house.proofs.PageWords.{words_loans, words_shut}
 use Rattle.house.proofs.Steps.{steps_same, drain_split}
-use Rattle.house.proofs.Between.{holds_steps, keeps_done, keeps_told, keeps_why}
+use Rattle.house.proofs.Between.{holds_steps, keeps_done, keeps_told, keeps_reason}
 use Rattle.house.proofs.Draining.{heard, holds_drain}
 use Rattle.house.proofs.Cutting.{cutting, Unlent, cut_root}
 use Rattle.house.proofs.Unmapped.{hiding_below, hides_hold, count_most}
@@ -206,12 +206,12 @@ close_refused {room} {who} {d} {n} {m} {h} {es} e q y b r = go e (subst (λ (z :
     s = b.holds.state
 
     go : (e : Refusal) → CloseRefused (ledger.view_of h.frames room) m who d e → Keeps room Quiet h (Told who (Close d) (No (number_of e)) ∷ es)
-    go OutOfRange x = keeps_why OutOfRange b (rw (le-leb s.devices d (omega (arith, b.holds.shape.devices_are))))
+    go OutOfRange x = keeps_reason OutOfRange b (rw (le-leb s.devices d (omega (arith, b.holds.shape.devices_are))))
     go NoPage x = absurd x
     go Occupied x = absurd x
     go WrongLoan x = absurd x
     go NotYours x =
-        keeps_why NotYours b
+        keeps_reason NotYours b
         (rw (lt-leb s.devices d (omega (arith, b.holds.shape.devices_are, x.0)), ap (owner_is who) (b.holds.kept.devs_are d) ∙ owner_meant who ((ledger.view_of h.frames room).device d) ∙ x.1))
     go Held x = absurd x
     go NoFrame x = absurd x

@@ -35,7 +35,7 @@ use Rattle.house.proofs.MeaningUses.{through_shut_all}
 use Rattle.house.proofs.ShutAll.{drained_of_all}
 use Rattle.house.proofs.Uses.{pageless, pages_gone}
 use Rattle.house.proofs.PageWords.{words_gone}
-use Rattle.house.proofs.Between.{keeps_done, keeps_told, keeps_why}
+use Rattle.house.proofs.Between.{keeps_done, keeps_told, keeps_reason}
 use Rattle.house.proofs.Unmapped.{hides_hold, count_most}
 use Rattle.house.proofs.Bared.{bare_nowhere, apart, some_or_any}
 use Rattle.house.proofs.Closed.{owner_meant}
@@ -203,14 +203,14 @@ later_end v owns w {ys} c m a q no_yet =
 -- An end in whole: refused, or done, or to be done later.
 pub end_refused : {room : List ℕ} {who p : ℕ} {h : Hw} {es : List Event} (e : Refusal) → Begins room who (End p) h es → EndRefused who p e → Keeps room Quiet h (Told who (End p) (No (number_of e)) ∷ es)
 unfolding why
-end_refused {p = p} OutOfRange b x = keeps_why OutOfRange b (rw (le-leb 32 p x))
+end_refused {p = p} OutOfRange b x = keeps_reason OutOfRange b (rw (le-leb 32 p x))
 end_refused NoPage b x = absurd x
 end_refused Occupied b x = absurd x
 end_refused WrongLoan b x = absurd x
 end_refused NotYours b x = absurd x
 end_refused Held b x = absurd x
 end_refused NoFrame b x = absurd x
-end_refused {who = who} {p = p} NotPermitted b x = keeps_why NotPermitted b (rw (lt-leb 32 p x.0, ne_eqb who 0 x.1))
+end_refused {who = who} {p = p} NotPermitted b x = keeps_reason NotPermitted b (rw (lt-leb 32 p x.0, ne_eqb who 0 x.1))
 end_refused NotBuilt b x = absurd x
 
 -- what it takes to close the devices

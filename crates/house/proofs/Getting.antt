@@ -28,7 +28,7 @@ use Rattle.house.proofs.Keeping.{kept_use, kept_place, shown_change}
 use Rattle.house.proofs.Uses.{use_home}
 use Rattle.house.proofs.PageWords.{words_get, words_none}
 use Rattle.house.proofs.Steps.{steps_same}
-use Rattle.house.proofs.Between.{holds_steps, keeps_done, keeps_why}
+use Rattle.house.proofs.Between.{holds_steps, keeps_done, keeps_reason}
 use Rattle.house.proofs.Idle.{idle_meant, clears_idle}
 use Rattle.house.proofs.Built.{all_built}
 
@@ -117,14 +117,14 @@ get_refused {room} {who} {u} {n} {h} {es} e q b r = go e (subst (λ (z : ℕ). G
     i = subst (λ (z : ℕ). Inside z v) (sym b.holds.shape.frames_are) (inside_room h.frames room)
 
     go : (e : Refusal) → GetRefused v h.frames who u e → Keeps room Quiet h (Told who (Get u) (No (number_of e)) ∷ es)
-    go OutOfRange x = keeps_why OutOfRange b (rw (le-leb 1024 u x))
+    go OutOfRange x = keeps_reason OutOfRange b (rw (le-leb 1024 u x))
     go NoPage x = absurd x
-    go Occupied x = keeps_why Occupied b (rw (lt-leb 1024 u x.0, is_true (taken s who u) (occupied s b.tidy.coherent b.holds.kept i who u x.1)))
+    go Occupied x = keeps_reason Occupied b (rw (lt-leb 1024 u x.0, is_true (taken s who u) (occupied s b.tidy.coherent b.holds.kept i who u x.1)))
     go WrongLoan x = absurd x
     go NotYours x = absurd x
     go Held x = absurd x
     go NoFrame x =
-        keeps_why NoFrame b
+        keeps_reason NoFrame b
         (rw (
           lt-leb 1024 u x.0,
           is_false (taken s who u) (vacant s b.tidy.coherent b.holds.kept i who u x.1),
@@ -165,13 +165,13 @@ free_refused {room} {who} {u} {n} {h} {es} e q b r = go e (subst (λ (z : ℕ). 
     i = subst (λ (z : ℕ). Inside z v) (sym b.holds.shape.frames_are) (inside_room h.frames room)
 
     go : (e : Refusal) → FreeRefused v who u e → Keeps room Quiet h (Told who (Free u) (No (number_of e)) ∷ es)
-    go OutOfRange x = keeps_why OutOfRange b (rw (le-leb 1024 u x))
-    go NoPage x = keeps_why NoPage b (rw (lt-leb 1024 u x.0, is_false (has s who u) (table_at_no_page s b.tidy.coherent b.holds.kept i who u x.1)))
+    go OutOfRange x = keeps_reason OutOfRange b (rw (le-leb 1024 u x))
+    go NoPage x = keeps_reason NoPage b (rw (lt-leb 1024 u x.0, is_false (has s who u) (table_at_no_page s b.tidy.coherent b.holds.kept i who u x.1)))
     go Occupied x = absurd x
     go WrongLoan x =
         let p = page_has s b.tidy.coherent b.holds.kept i who u x.1.0 x.1.1 in
         let w = loan_away s b.tidy.coherent b.holds.kept i who u x.1.0 x.1.1 x.1.2 in
-        keeps_why WrongLoan b (rw (lt-leb 1024 u x.0, is_true (has s who u) p.0, is_false (is_home (loan s who u)) w))
+        keeps_reason WrongLoan b (rw (lt-leb 1024 u x.0, is_true (has s who u) p.0, is_false (is_home (loan s who u)) w))
     go NotYours x = absurd x
     go Held x = absurd x
     go NoFrame x = absurd x

@@ -28,7 +28,7 @@ use Rattle.house.proofs.Keeping.{kept_use, kept_place, shown_change}
 use Rattle.house.proofs.Uses.{use_home}
 use Rattle.house.proofs.PageWords.{words_page}
 use Rattle.house.proofs.Steps.{steps_same}
-use Rattle.house.proofs.Between.{holds_steps, keeps_done, keeps_why}
+use Rattle.house.proofs.Between.{holds_steps, keeps_done, keeps_reason}
 use Rattle.house.proofs.Hiding.{hiding, hide_place}
 use Rattle.house.proofs.Built.{all_built}
 
@@ -112,15 +112,15 @@ give_refused {room} {who} {u} {a} {b} {n} {h} {es} e q g r = go e (subst (λ (z 
     k = g.holds.kept
 
     go : (e : Refusal) → GiveRefused v who u a b e → Keeps room Quiet h (Told who (Give u a b) (No (number_of e)) ∷ es)
-    go OutOfRange x = keeps_why OutOfRange g (rw (out_of_range u a b x))
-    go NoPage x = keeps_why NoPage g (rw (in_range u a b x.0 x.1 x.2, is_false (has s who u) (table_at_no_page s co k i who u x.3)))
+    go OutOfRange x = keeps_reason OutOfRange g (rw (out_of_range u a b x))
+    go NoPage x = keeps_reason NoPage g (rw (in_range u a b x.0 x.1 x.2, is_false (has s who u) (table_at_no_page s co k i who u x.3)))
     go Occupied x =
-        keeps_why Occupied g
+        keeps_reason Occupied g
         (rw (in_range u a b x.0 x.1 x.2, is_true (has s who u) (page_has s co k i who u x.3.0 x.3.1).0, is_true (taken s a b) (occupied s co k i a b x.4)))
     go WrongLoan x =
         let p = page_has s co k i who u x.4.0 x.4.1 in
         let w = loan_away s co k i who u x.4.0 x.4.1 x.4.2 in
-        keeps_why WrongLoan g
+        keeps_reason WrongLoan g
         (rw (in_range u a b x.0 x.1 x.2, is_true (has s who u) p.0, is_false (taken s a b) (vacant s co k i a b x.3), is_false (is_home (loan s who u)) w))
     go NotYours x = absurd x
     go Held x = absurd x

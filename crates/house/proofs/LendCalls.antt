@@ -43,7 +43,7 @@ use Rattle.house.proofs.PageWords.{words_put, words_page, words_none}
 use Rattle.house.proofs.Tables.{with_low, low_not_root, top_not_root}
 use Rattle.house.proofs.Lending.{lend_entry, lend_linked}
 use Rattle.house.proofs.Steps.{steps_same}
-use Rattle.house.proofs.Between.{holds_steps, keeps_done, keeps_why}
+use Rattle.house.proofs.Between.{holds_steps, keeps_done, keeps_reason}
 use Rattle.house.proofs.Idle.{idle_meant, steps_quiet, put_idle, clears_idle}
 use Rattle.house.proofs.Built.{all_built}
 use Rattle.house.proofs.Getting.{idle_seen}
@@ -293,13 +293,13 @@ lend_refused {room} {who} {u} {d} {p} {n} {m} {w} {h} {es} e q q2 b r =
         )
 
     go : (e : Refusal) → LendRefused v h.frames s.devices who u d p e → Keeps room Quiet h (Told who (Lend u d p w) (No (number_of e)) ∷ es)
-    go OutOfRange x = keeps_why OutOfRange b (rw (out_of_range u s.devices d p x))
-    go NoPage x = keeps_why NoPage b (no_page_there (x.0, x.1, x.2) x.3)
-    go Occupied x = keeps_why Occupied b (is_taken (x.0, x.1, x.2) x.3.0 x.3.1 x.4.0 x.4.1)
-    go WrongLoan x = keeps_why WrongLoan b (is_away (x.0, x.1, x.2) x.3.0 x.3.1 x.3.2 x.4)
-    go NotYours x = keeps_why NotYours b (not_yours (x.0, x.1, x.2) x.3.0 x.3.1 x.3.2 x.4 x.5)
+    go OutOfRange x = keeps_reason OutOfRange b (rw (out_of_range u s.devices d p x))
+    go NoPage x = keeps_reason NoPage b (no_page_there (x.0, x.1, x.2) x.3)
+    go Occupied x = keeps_reason Occupied b (is_taken (x.0, x.1, x.2) x.3.0 x.3.1 x.4.0 x.4.1)
+    go WrongLoan x = keeps_reason WrongLoan b (is_away (x.0, x.1, x.2) x.3.0 x.3.1 x.3.2 x.4)
+    go NotYours x = keeps_reason NotYours b (not_yours (x.0, x.1, x.2) x.3.0 x.3.1 x.3.2 x.4 x.5)
     go Held x = absurd x
-    go NoFrame x = keeps_why NoFrame b (is_full x.0.0 x.0.1 x.1 x.2)
+    go NoFrame x = keeps_reason NoFrame b (is_full x.0.0 x.0.1 x.1 x.2)
     go NotPermitted x = absurd x
     go NotBuilt x = absurd x
 

@@ -55,5 +55,6 @@ pub mod ClosedTurns
 pub mod Settled
 pub mod LettingGo
 pub mod EndedPlaces
+pub mod EndRooms
 pub mod Ends
 pub mod Refused

@@ -29,7 +29,7 @@ use Rattle.house.proofs.Keeping.{kept_use, kept_device, kept_top}
 use Rattle.house.proofs.Tables.{open_device}
 use Rattle.house.proofs.PageWords.{words_put, words_none}
 use Rattle.house.proofs.Steps.{steps_same}
-use Rattle.house.proofs.Between.{holds_steps, keeps_done, keeps_why}
+use Rattle.house.proofs.Between.{holds_steps, keeps_done, keeps_reason}
 use Rattle.house.proofs.Idle.{idle_meant, clears_idle}
 use Rattle.house.proofs.Getting.{idle_seen}
 use Rattle.house.proofs.Built.{all_built}
@@ -149,16 +149,16 @@ open_refused {room} {who} {d} {h} {es} e b r =
     i = subst (λ (z : ℕ). Inside z v) (sym q.frames_are) (inside_room h.frames room)
 
     go : (e : Refusal) → OpenRefused v s.frames s.devices s.group s.driver who d e → Keeps room Quiet h (Told who (Open d) (No (number_of e)) ∷ es)
-    go OutOfRange x = keeps_why OutOfRange b (rw (le-leb s.devices d x))
+    go OutOfRange x = keeps_reason OutOfRange b (rw (le-leb s.devices d x))
     go NoPage x = absurd x
     go Occupied x = absurd x
     go WrongLoan x = absurd x
-    go NotYours x = keeps_why NotYours b (rw (lt-leb s.devices d x.0, ne_eqb (s.driver d) who x.1))
+    go NotYours x = keeps_reason NotYours b (rw (lt-leb s.devices d x.0, ne_eqb (s.driver d) who x.1))
     go Held x =
-        keeps_why Held b
+        keeps_reason Held b
         (rw (lt-leb s.devices d x.0, eq-eqb (s.driver d) who x.1, is_true (not (is_shut (s.dev d)) || foreign s who d) (held_by_some s b.holds.kept who d x.2)))
     go NoFrame x =
-        keeps_why NoFrame b
+        keeps_reason NoFrame b
         (rw (
           lt-leb s.devices d x.0,
           eq-eqb (s.driver d) who x.1,

@@ -33,7 +33,7 @@ use Rattle.house.proofs.Uses.{use_leaving, come_home}
 use Rattle.house.proofs.Tables.{put_entry, low_not_root}
 use Rattle.house.proofs.PageWords.{words_page, words_put}
 use Rattle.house.proofs.Steps.{steps_same, drain_split}
-use Rattle.house.proofs.Between.{holds_steps, keeps_told, keeps_done, keeps_why}
+use Rattle.house.proofs.Between.{holds_steps, keeps_told, keeps_done, keeps_reason}
 use Rattle.house.proofs.Mappings.{mapping}
 use Rattle.house.proofs.Idle.{steps_quiet}
 use Rattle.house.proofs.Draining.{holds_heard}
@@ -286,14 +286,14 @@ recall_refused {room} {who} {u} {n} {h} {es} e q b r = go e (subst (λ (z : ℕ)
     i = subst (λ (z : ℕ). Inside z v) (sym b.holds.shape.frames_are) (inside_room h.frames room)
 
     go : (e : Refusal) → RecallRefused v who u e → Keeps room Quiet h (Told who (Recall u) (No (number_of e)) ∷ es)
-    go OutOfRange x = keeps_why OutOfRange b (rw (le-leb 1024 u x))
-    go NoPage x = keeps_why NoPage b (rw (lt-leb 1024 u x.0, is_false (has s who u) (table_at_no_page s b.tidy.coherent b.holds.kept i who u x.1)))
+    go OutOfRange x = keeps_reason OutOfRange b (rw (le-leb 1024 u x))
+    go NoPage x = keeps_reason NoPage b (rw (lt-leb 1024 u x.0, is_false (has s who u) (table_at_no_page s b.tidy.coherent b.holds.kept i who u x.1)))
     go Occupied x = absurd x
     go WrongLoan x =
         let p = page_has s b.tidy.coherent b.holds.kept i who u x.1.0 x.1.1 in
         let w : Meaning.loan s who u ≡ Home = loan_there s b.tidy.coherent b.holds.kept i who u x.1.0 x.1.1 ∙ ap loan_meant x.1.2 in
         let o : is_home (Meaning.loan s who u) ≡ true = ap is_home w in
-        keeps_why WrongLoan b (rw (lt-leb 1024 u x.0, is_true (has s who u) p.0, o))
+        keeps_reason WrongLoan b (rw (lt-leb 1024 u x.0, is_true (has s who u) p.0, o))
     go NotYours x = absurd x
     go Held x = absurd x
     go NoFrame x = absurd x

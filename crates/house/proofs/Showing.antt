@@ -22,7 +22,7 @@ use Rattle.house.proofs.Shelf.{is_true, is_false, from_true, left, right, same_n
 use Rattle.house.proofs.Rooms.{Inside, inside_room, vacant, occupied}
 use Rattle.house.proofs.Keeping.{kept_registers, shown_change}
 use Rattle.house.proofs.Steps.{steps_same}
-use Rattle.house.proofs.Between.{holds_steps, keeps_done, keeps_why}
+use Rattle.house.proofs.Between.{holds_steps, keeps_done, keeps_reason}
 use Rattle.house.proofs.Built.{all_built}
 
 opened_meant : (c : ℕ) (x : Device) → x ≡ device.Opened c → T (open_by c (dev_meant x))
@@ -90,12 +90,12 @@ regs_refused {room} {who} {d} {u} {m} {h} {es} e q b r = go e (subst (λ (z : �
     i = subst (λ (z : ℕ). Inside z v) (sym b.holds.shape.frames_are) (inside_room h.frames room)
 
     go : (e : Refusal) → RegsRefused v.place v.device s.devices who d u e → Keeps room Quiet h (Told who (Regs d u) (No (number_of e)) ∷ es)
-    go OutOfRange x = keeps_why OutOfRange b (rw (out_of_range s.devices d u x))
+    go OutOfRange x = keeps_reason OutOfRange b (rw (out_of_range s.devices d u x))
     go NoPage x = absurd x
-    go Occupied x = keeps_why Occupied b (rw (in_range s.devices d u x.0 x.1, is_true (taken s who u) (occupied s b.tidy.coherent b.holds.kept i who u x.2)))
+    go Occupied x = keeps_reason Occupied b (rw (in_range s.devices d u x.0 x.1, is_true (taken s who u) (occupied s b.tidy.coherent b.holds.kept i who u x.2)))
     go WrongLoan x = absurd x
     go NotYours x =
-        keeps_why NotYours b
+        keeps_reason NotYours b
         (rw (
           in_range s.devices d u x.0 x.1,
           is_false (taken s who u) (vacant s b.tidy.coherent b.holds.kept i who u x.2),

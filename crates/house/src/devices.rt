@@ -1,5 +1,5 @@
 // open and regs: devices that a program drives by itself.
-ghost use Rattle.std.specs.Prelude.{◌≡◌, ◌<◌, ◌≤◌, false, ◌∷◌, length, MatchResult, ◌≢◌};
+ghost use Rattle.std.specs.Prelude.{◌≡◌, ◌<◌, ◌≤◌, ◌∷◌, MatchResult, ◌≢◌};
 ghost use Rattle.ledger.specs.declared.Use.TheVariants.{Idle};
 ghost use Rattle.ledger.specs.declared.Place.TheVariants.{Nothing};
 ghost use Rattle.ledger.specs.declared.Device.TheVariants.{Shut, Opened};

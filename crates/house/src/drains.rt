@@ -1,6 +1,6 @@
 // That the IOMMU has forgotten a device: a value that is made where a drain says yes. It has no Drop, so it is spent in the same
 // call, by what makes a page home or shuts the device.
-ghost use Rattle.std.specs.Prelude.{◌≡◌, ℕ, ◌+◌, ◌<◌, ◌≤◌, true, false, T, MatchOption};
+ghost use Rattle.std.specs.Prelude.{◌≡◌, ℕ, ◌<◌, true, false, MatchOption};
 ghost use Rattle.house.specs.Machine.{Drains};
 ghost use Rattle.house.specs.Operations.{Asked1};
 

@@ -4,7 +4,7 @@ ghost use Rattle.ledger.specs.declared.Place.TheVariants.{Registers};
 ghost use Rattle.ledger.specs.Room.{device_of, place_of};
 ghost use Rattle.ledger.specs.Uses.{owner_is, shows_any};
 ghost use Rattle.ledger.specs.Changes.{vacated, ended_below};
-ghost use Rattle.ledger.specs.Rooms.{says, Same, Becomes};
+ghost use Rattle.ledger.specs.Rooms.{says, Same};
 ghost use Rattle.ledger.specs.View.{view_of};
 ghost use Rattle.house.specs.Event.{Told};
 ghost use Rattle.house.specs.Meaning.{Quiet};

@@ -1,6 +1,6 @@
 // An idle frame in hand: it is made noughts, and then becomes something, which takes it apart. It cannot be copied or let go, so
 // no frame is lost or given twice on any way out of a call.
-ghost use Rattle.std.specs.Prelude.{◌≡◌, ℕ, ◌+◌, ◌*◌, ◌<◌, ◌≤◌, false, T, length, MatchResult, ◌≢◌};
+ghost use Rattle.std.specs.Prelude.{◌≡◌, ℕ, ◌<◌, ◌≤◌, false, MatchResult, ◌≢◌};
 ghost use Rattle.ledger.specs.declared.Use.TheVariants.{Idle};
 ghost use Rattle.ledger.specs.declared.Place.TheVariants.{Nothing};
 ghost use Rattle.ledger.specs.declared.Device.TheVariants.{Shut};

@@ -1,7 +1,7 @@
 // The keeper of an IOMMU: what it may ask of a machine, the world around it, and the loop that serves programs.
 #![tactic(auto)]
 
-ghost use Rattle.std.specs.Prelude.{◌≡◌, ℕ, ◌+◌, ◌*◌, ◌<◌, ◌≤◌, T, List, [], ◌∷◌, length};
+ghost use Rattle.std.specs.Prelude.{◌≡◌, ℕ, ◌+◌, ◌<◌, ◌≤◌, T, List, [], ◌∷◌, length};
 ghost use Rattle.house.specs.Event.{Event, Told};
 ghost use Rattle.house.specs.Machine.{Hw, Frame, Registers, Nothing, AtStart, Steps, Drains, Comes, with_mem, counted, put, shows, started};
 ghost use Rattle.house.specs.Meaning.{Explained, Quiet};
@@ -200,12 +200,12 @@ impl Keeper {
             Call::Close { d } => close(w, room, who, d),
             Call::Regs { d, v } => map_registers(w, room, who, d, v),
             Call::Lend { v, d, p, writes } => {
-                let at = Mapping {
+                let to = Mapping {
                     device: d,
                     page: p,
                     writes,
                 };
-                lend(w, room, &mut self.next, who, v, at)
+                lend(w, room, &mut self.next, who, v, to)
             }
             Call::Recall { v } => recall(w, room, who, v),
             Call::End { who: p } => end(w, room, who, p),
@@ -214,6 +214,7 @@ impl Keeper {
 }
 
 // The main theorem: whatever programs ask and do, and whatever devices and the IOMMU do, what is told is explained.
+// Its text is fixed, so its count stays.
 pub fn rounds<W: Machine + World>(w: &mut W, room: &mut [u64], turns: u64)
     requires starts { AtStart (W.hw w.old) }
     requires unseen { W.seen w.old ≡ [] }

@@ -1,5 +1,5 @@
 // lend: a page of a program is mapped for a device.
-ghost use Rattle.std.specs.Prelude.{◌≡◌, ℕ, suc, ◌+◌, ◌*◌, ◌/◌, ◌%◌, ◌<◌, ◌≤◌, ◌∷◌, length, MatchResult, ◌≢◌};
+ghost use Rattle.std.specs.Prelude.{◌≡◌, ℕ, suc, ◌+◌, ◌*◌, ◌/◌, ◌<◌, ◌≤◌, ◌∷◌, MatchResult, ◌≢◌};
 ghost use Rattle.ledger.specs.declared.Use.TheVariants.{Idle};
 ghost use Rattle.ledger.specs.Room.{use_of, low_of};
 ghost use Rattle.ledger.specs.Rooms.{says};

@@ -1,5 +1,5 @@
 // get, free and give: pages of programs.
-ghost use Rattle.std.specs.Prelude.{◌≡◌, ℕ, ◌+◌, ◌*◌, ◌<◌, ◌≤◌, false, List, ◌∷◌, length, MatchResult};
+ghost use Rattle.std.specs.Prelude.{◌≡◌, ℕ, ◌+◌, ◌*◌, ◌<◌, ◌≤◌, ◌∷◌, MatchResult};
 ghost use Rattle.ledger.specs.declared.Loan.TheVariants.{Home};
 ghost use Rattle.ledger.specs.declared.Use.TheVariants.{Idle, PageOf};
 ghost use Rattle.ledger.specs.declared.Place.TheVariants.{Nothing, Page};

@@ -1,6 +1,8 @@
 // Where something stands: a place of a program's address space, a slot of a device's upper table.
 ghost use Rattle.std.specs.Prelude.{◌<◌};
 
+// A program, a device or a frame alone is a number: it has no second that travels with it.
+
 // Place v of program `who`.
 #[derive(Clone, Copy)]
 pub struct Address {

@@ -35,6 +35,7 @@ pub fn top_at(words: &[u64], d: u32) -> u32
     number(words[device_word(d) + 1])
 }
 
+// As `top_at`, a number: shutting writes 0 here, and opening the frame.
 pub fn set_top(words: &mut [u64], d: u32, f: u32)
     requires long { 65536 ≤ length words.old }
     requires device { d < 32 }

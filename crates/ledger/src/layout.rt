@@ -1,6 +1,8 @@
 // Where the tables lie in the room: places, lower tables, devices, and two words for each frame.
 ghost use Rattle.std.specs.Prelude.{◌≡◌, ◌+◌, ◌*◌};
 
+// Numbers, not an Address or a Slot: these say where any two numbers lead, and ask for nothing.
+
 // 32 programs have 1,024 places each, from word 0 on.
 pub fn place_word(who: u32, v: u32) -> usize
     ensures { result ≡ who * 1024 + v }

@@ -24,7 +24,8 @@ impl Room<'_> {
         self.set_loan(at, f, Loan::Lent(to));
     }
 
-    // The page at a place, in frame f, comes home; or, if it may not yet, it is leaving if it was lent.
+    // The page at a place, in frame f, comes home; or, if it may not yet, it is leaving if it was lent. `home` is a bool, being the
+    // answer to a question that the caller has asked: an enum of two names would be made from it at the one call.
     pub fn recall_page(&mut self, at: Address, f: u32, home: bool)
         requires { place_of self.old.words.now at.who at.v ≡ Page f }
         ensures { Becomes self.old (with_loan at.who at.v f (recalled_loan home (loan_in (use_of self.old.words.now f))) (says self.old)) self.new }

@@ -13,7 +13,7 @@ pub struct Record {
 }
 
 impl Record {
-    // The record of a use; unpacking it gives that use again.
+    // The record of a use; unpacking it gives that use again. No `From`, which cannot ask that the use fits.
     pub fn pack(used: Use) -> Record
         requires { UseFits used }
         ensures words { (result.low ≡ low_word used) × (result.high ≡ high_word used) }

@@ -1,4 +1,5 @@
 // The room as a value: words that are lent, and for how many frames they are kept. What it says is always consistent.
+// Where a method writes twice, it binds `&mut *self.words` first: the ghost field is asked for again only at its end.
 ghost use Rattle.std.specs.Prelude.{◌≡◌, ◌<◌};
 ghost use Rattle.ledger.specs.Consistent.{Consistent};
 ghost use Rattle.ledger.specs.Facts.{consistent_prop};

@@ -1,11 +1,13 @@
-// Searches over the room.
+// Searches over the room. They read bare words: a Room would ask more of the caller.
 ghost use Rattle.std.specs.Prelude.{◌≡◌, ℕ, ◌+◌, ◌*◌, ◌<◌, ◌≤◌, true, length, Decides, MatchOption, ◌≢◌, slice_index};
 ghost use Rattle.ledger.specs.declared.Use.TheVariants.{Idle};
 ghost use Rattle.ledger.specs.Room.{use_of, place_of, device_of};
-ghost use Rattle.ledger.specs.Uses.{is_idle, is_at, loan_in, loan_shown, held_by_other};
+ghost use Rattle.ledger.specs.Uses.{is_at, loan_in, loan_shown, held_by_other};
+ghost use Rattle.ledger.specs.Consistent.{Consistent};
 
 use crate::devices::device_at;
 use crate::frames::use_at;
+use crate::places::place_at;
 use crate::{Address, Device, Loan, Place, Room, Use};
 
 // The first idle frame from `from` to below `to`; None only where there is none.
@@ -29,40 +31,51 @@ pub fn find_idle(words: &[u64], frames: u32, from: u32) -> Option<u32>
     }
 }
 
+// Whether some frame is lent to d or leaving it at page p. Such a page is of the program that has d, so its places are all that
+// there are to look at.
+pub fn page_taken(words: &[u64], frames: u32, d: u32, p: u32) -> bool
+    requires consistent { Consistent frames words.now }
+    requires device { d < 32 }
+    ensures { Decides result ((f : ℕ) × (f < frames) × (is_at d p (loan_in (use_of words.now f)) ≡ true)) }
+{
+    match device_at(words, d) {
+        Device::Shut => false,
+        Device::Opened(who) | Device::Closing(who) => lent_by(words, frames, who, d, p),
+    }
+}
+
+// Whether a page that a place of `who` shows is lent to d or leaving it at page p.
+fn lent_by(words: &[u64], frames: u32, who: u32, d: u32, p: u32) -> bool
+    requires consistent { Consistent frames words.now }
+    requires program { who < 32 }
+    ensures { Decides result ((v : ℕ) × (v < 1024) × (is_at d p (loan_shown (use_of words.now) (place_of words.now who v)) ≡ true)) }
+{
+    // A loop, since a closure in `any` would need clauses of its own to say that `v` is a place.
+    for v in 0..1024 {
+        if is_at(loan_shown(words, frames, Address { who, v }), d, p) {
+            return true;
+        }
+    }
+    false
+}
+
+fn loan_shown(words: &[u64], frames: u32, at: Address) -> Loan
+    requires { Consistent frames words.now }
+    ensures { result ≡ loan_shown (use_of words.now) (place_of words.now at.who at.v) }
+{
+    match place_at(words, at) {
+        Place::Page(f) => loan_in(use_at(words, f)),
+        _ => Loan::Home,
+    }
+}
+
 impl Room<'_> {
-    // Whether some frame is lent to d or leaving it at page p. Such a page is of the program that has d, so its places are all
-    // that there are to look at.
+    // As the function of this name, which a caller has who may not write the words.
     pub fn page_taken(&self, d: u32, p: u32) -> bool
         requires { d < 32 }
         ensures { Decides result ((f : ℕ) × (f < self.now.frames) × (is_at d p (loan_in (use_of self.now.words.now f)) ≡ true)) }
     {
-        match self.device(d) {
-            Device::Shut => false,
-            Device::Opened(who) | Device::Closing(who) => self.lent_by(who, d, p),
-        }
-    }
-
-    // Whether a page that a place of `who` shows is lent to d or leaving it at page p.
-    fn lent_by(&self, who: u32, d: u32, p: u32) -> bool
-        requires { who < 32 }
-        ensures { Decides result ((v : ℕ) × (v < 1024) × (is_at d p (loan_shown (use_of self.now.words.now) (place_of self.now.words.now who v)) ≡ true)) }
-    {
-        // A loop, since a closure in `any` would need clauses of its own to say that `v` is a place.
-        for v in 0..1024 {
-            if is_at(self.loan_shown(Address { who, v }), d, p) {
-                return true;
-            }
-        }
-        false
-    }
-
-    fn loan_shown(&self, at: Address) -> Loan
-        ensures { result ≡ loan_shown (use_of self.now.words.now) (place_of self.now.words.now at.who at.v) }
-    {
-        match self.place(at) {
-            Place::Page(f) => loan_in(self.used(f)),
-            _ => Loan::Home,
-        }
+        page_taken(self.words, self.frames, d, p)
     }
 }
 

@@ -26,8 +26,8 @@ impl<'a> Room<'a> {
     }
 }
 
-// By index, not by `fill`: the proof of that names the part that is filled, so a part cut short would be found there and not by
-// the contract.
+// By index. `fill` was tried: the proof of it names the part that is filled, so a part cut short was found there and not by the
+// contract.
 fn clear_tables(words: &mut [u64])
     requires { 65536 ≤ length words.old }
     ensures cleared { (i : ℕ) → i < 49216 → slice_index words.new i ≡ 0 }
@@ -38,7 +38,8 @@ fn clear_tables(words: &mut [u64])
     }
 }
 
-// By index, since layout says where a record is; a walk over pairs of words would say it again.
+// By index, since layout says where a record is; a walk over pairs of words would say it again. The two numbers are the words of
+// House and of Idle: `set_use` says nothing of the words past the record.
 fn clear_frames(words: &mut [u64], frames: u32)
     requires { 65536 + 2 * frames ≤ length words.old }
     ensures idle { (f : ℕ) → f < frames → use_of words.new f ≡ (if nat_eq f 0 then House else Idle) }

@@ -8,7 +8,7 @@ ghost use Rattle.ledger.specs.Rooms.{says, Becomes};
 use crate::{Address, Loan, Place, Room, Use};
 
 impl Room<'_> {
-    // What is lent to d is leaving it.
+    // What is lent to d is leaving it. Two names for one sweep, since they promise two things.
     pub fn leave_all(&mut self, who: u32, d: u32)
         requires program { who < 32 }
         requires owner { owner_is who (device_of self.old.words.now d) ≡ true }

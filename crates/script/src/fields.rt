@@ -1,4 +1,4 @@
-// What a word of a line is read as.
+// What a word of a line is read as. A trait of this crate, not TryFrom: the types on both sides are the library's.
 ghost use Rattle.std.specs.Prelude.{◌≡◌, ℕ, List, Option};
 ghost use Rattle.script.specs.Decimal.{index_of, exact_of};
 ghost use Rattle.script.specs.Parser.{mode_of};

@@ -10,7 +10,8 @@ pub enum NumberError {
     TooLarge,
 }
 
-// The number that the bytes write, if they are digits and nothing else, and 64 bits hold it.
+// The number that the bytes write, if they are digits and nothing else, and 64 bits hold it. Not `u64::from_str`: that takes a `+`,
+// too, and asks for text that is known to be UTF-8.
 pub fn read_number(word: &[u8]) -> Result<u64, NumberError>
     ensures { result ≡ sized (number_of word.now) }
 {

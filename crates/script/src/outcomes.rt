@@ -25,7 +25,7 @@ pub enum Outcome {
     // Whether the IOMMU found a mapping to keep.
     Kept,
     Nothing,
-    // Nothing has come of it yet; it is never printed.
+    // Nothing has come of it yet; it is never printed. No Option around the whole, since this has a text, too.
     NotYet,
     // The machine has come to its end.
     Over,

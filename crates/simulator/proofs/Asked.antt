@@ -27,9 +27,6 @@ pub put_goes : (p : Parts) (fr : ℕ) (ws : List ℕ) (f k x : ℕ) (q : Parts) 
     Goes (written fr ws (p.left - 1) p) q → Steps (counted (with_mem (put f k x (mem_of p.mem)) (hw_of p))) (seen_of p) (hw_of q) (seen_of q)
 put_goes p fr ws f k x q len lf lk ef ew g = subst (λ (h : Hw). Steps h (seen_of p) (hw_of q) (seen_of q)) (put_path p fr ws f k x len lf lk ef ew) g
 
-pub get_goes : (p q : Parts) → Goes (written p.frames p.mem (p.left - 1) p) q → Steps (counted (hw_of p)) (seen_of p) (hw_of q) (seen_of q)
-get_goes p q g = g
-
 -- the parts after a place was changed
 abbrev pub placed : List View → ℕ → Parts → Parts
 placed ws l p =

@@ -94,9 +94,6 @@ then_same p q r a b = (b.0 ∙ a.0, b.1 ∙ a.1)
 pub missed_at : (p q : Parts) (d g : ℕ) (w b : Bool) → b ≡ true → MissedAt p d g w (Ok b) q → MissedAt p d g w (Ok true) q
 missed_at p q d g w b e m = subst (λ c. MissedAt p d g w (Ok c) q) e m
 
-pub same_at : (p q : Parts) (d g : ℕ) (w b : Bool) → b ≡ false → MissedAt p d g w (Ok b) q → Same p q
-same_at p q d g w b e m = subst (λ c. MissedAt p d g w (Ok c) q) e m
-
 pub read_missed : (p q : Parts) (d g k : ℕ) → Reached p d g k false (Ok None) q → Plays p (line.Read d g k) say.Miss q
 read_missed p q d g k (ld, lg, t) = (goes_ran p q (miss_goes p q d g false (Ok true) ld lg t), heard_at t.2 (heard.read_misses d g k))
 

@@ -1,9 +1,9 @@
 -- What lines of a script do: programs run, and what is heard of it.
-use Rattle.std.proofs.Common.{◌≡◌, ℕ, ◌+◌, ◌*◌, ◌<◌, ◌∷◌, ◌⊎◌, inl, inr, List, length, set, map, Some, Option, Result, Ok, Err, IsErr, sym, ap, refl, subst}
+use Rattle.std.proofs.Common.{◌≡◌, ℕ, ◌+◌, ◌*◌, ◌<◌, ◌∷◌, ◌⊎◌, inl, inr, List, length, set, map, Some, Option, Result, Ok, Err, IsErr, sym, ap, refl, subst, ◌∙◌}
 use Rattle.std.proofs.lemmas.Bool.{false≢true}
 use Rattle.house.specs.declared.Call.{Call}
 use Rattle.house.specs.Event.{Event, Loaded}
-use Rattle.house.specs.Machine.{Hw, Steps, none, more, Runs, rest, device, loads, stores, pokes, faults, Comes, comes, over, allowed, Nothing, Frame, Registers, with_mem, put}
+use Rattle.house.specs.Machine.{Hw, Steps, none, more, Runs, rest, device, loads, stores, pokes, faults, Comes, comes, over, allowed, Nothing, Registers, with_mem, put}
 use Rattle.script.specs.declared.forms.Line.{Line}
 use Rattle.script.specs.declared.forms.Line.TheVariants as line
 use Rattle.script.specs.declared.outcomes.Outcome.{Outcome}
@@ -23,6 +23,7 @@ use Rattle.simulator.specs.Effects.{Same}
 use Rattle.simulator.specs.Refusals.{refusal_of}
 use Rattle.simulator.specs.Heard as heard
 use Rattle.simulator.specs.Heard.{Heard, Replied, reply_of, said_of}
+use Rattle.simulator.specs.Shows.{Showed}
 use Rattle.simulator.proofs.Asked.{written}
 use Rattle.simulator.proofs.Accesses.{noted_written}
 
@@ -93,17 +94,34 @@ pokes_at_load p q c v k d lc lv e a = noted_line p q _ (line.Load c v k) say.Pok
 pub pokes_at_store : (p q : Parts) (c v k x d : ℕ) → c < 32 → v < 1024 → space_of p.space c v ≡ Registers d → q ≡ noted (note.Poked c v d ∷ p.notes) p → Plays p (line.Store c v k x) say.Poked q
 pokes_at_store p q c v k x d lc lv e a = noted_line p q _ (line.Store c v k x) say.Poked a (pokes c v d lc lv e (rest _ _)) (heard.store_pokes c v k x d)
 
-pub load_loads : (p q : Parts) (c v k f x : ℕ) → c < 32 → v < 1024 → k < 512 → space_of p.space c v ≡ Frame f → x ≡ mem_of p.mem f k → q ≡ noted (note.Loaded c v k x ∷ p.notes) p → Plays p (line.Load c v k) (say.Loaded x) q
-load_loads p q c v k f x lc lv lk e m a =
-    noted_line p q _ (line.Load c v k) (say.Loaded x) a (subst (λ y. Runs (hw_of p) (seen_of p) (hw_of p) (Loaded c v k y ∷ seen_of p)) (sym m) (loads c v f k lc lv lk e (rest _ _))) (heard.loaded c v k x)
+-- a place that shows no page, of a load as of a store
+pub shown_faults : (p q : Parts) (c v k : ℕ) → c < 32 → v < 1024 → space_of p.space c v ≡ Nothing → q ≡ noted (note.Faulted c v ∷ p.notes) p → Showed p c v k (Ok (Err say.Fault)) q
+shown_faults p q c v k lc lv e a = let z = faults_at_load p q c v k lc lv e a in (z.0, z.1, λ x. (faults_at_store p q c v k x lc lv e a).1)
 
--- and then a word is written
-pub store_stores : (p q : Parts) (c v k f x fr : ℕ) (ws : List ℕ) → c < 32 → v < 1024 → k < 512 → x < 18446744073709551616 → space_of p.space c v ≡ Frame f → length p.mem ≡ 512 * p.frames → f < p.frames →
-    q ≡ noted (note.Stored c v k x ∷ p.notes) p → fr ≡ q.frames → ws ≡ set q.mem (512 * f + k) x → Plays p (line.Store c v k x) say.Stored (written fr ws q.left q)
-store_stores p q c v k f x fr ws lc lv lk lx e len lf a ef ew =
-    let z = noted_written p q (note.Stored c v k x) fr ws f k x a len lf lk ef ew in (
-      subst (λ (h : Hw). Runs (hw_of p) (seen_of p) h (seen_of (written fr ws q.left q))) (sym z.0)
-          (subst (λ (es : List Event). Runs (hw_of p) (seen_of p) (with_mem (put f k x (mem_of p.mem)) (hw_of p)) es) (sym z.1) (stores c v f k x lc lv lk lx e (rest _ _))),
+pub shown_pokes : (p q : Parts) (c v k d : ℕ) → c < 32 → v < 1024 → space_of p.space c v ≡ Registers d → q ≡ noted (note.Poked c v d ∷ p.notes) p → Showed p c v k (Ok (Err say.Poked)) q
+shown_pokes p q c v k d lc lv e a = let z = pokes_at_load p q c v k d lc lv e a in (z.0, z.1, λ x. (pokes_at_store p q c v k x d lc lv e a).1)
+
+-- a place that shows a page: no room to note what is done there, or a word is loaded
+pub shown_full : (p q r : Parts) (c v k f : ℕ) → Showed p c v k (Ok (Ok f)) q → r ≡ q → Same p r
+shown_full p q r c v k f s e = unchanged p r (e ∙ s.5)
+
+pub load_loads : (p q r : Parts) (c v k f x : ℕ) → Showed p c v k (Ok (Ok f)) q → x ≡ mem_of q.mem f k → r ≡ noted (note.Loaded c v k x ∷ q.notes) q → Plays p (line.Load c v k) (say.Loaded x) r
+load_loads p q r c v k f x s m a = subst P (sym s.5) base m a
+  where
+    P : Parts → Type 0
+    P y = x ≡ mem_of y.mem f k → r ≡ noted (note.Loaded c v k x ∷ y.notes) y → Plays p (line.Load c v k) (say.Loaded x) r
+
+    base : P p
+    base n b = noted_line p r _ (line.Load c v k) (say.Loaded x) b (subst (λ y. Runs (hw_of p) (seen_of p) (hw_of p) (Loaded c v k y ∷ seen_of p)) (sym n) (loads c v f k s.0 s.1 s.2 s.3 (rest _ _))) (heard.loaded c v k x)
+
+-- or a word is written
+pub store_stores : (p q r : Parts) (c v k f x fr : ℕ) (ws : List ℕ) → Showed p c v k (Ok (Ok f)) q → x < 18446744073709551616 → length p.mem ≡ 512 * p.frames →
+    r ≡ noted (note.Stored c v k x ∷ q.notes) q → fr ≡ r.frames → ws ≡ set r.mem (512 * f + k) x → Plays p (line.Store c v k x) say.Stored (written fr ws r.left r)
+store_stores p q r c v k f x fr ws s lx len a ef ew =
+    let b = subst (λ (y : Parts). r ≡ noted (note.Stored c v k x ∷ y.notes) y) s.5 a in
+    let z = noted_written p r (note.Stored c v k x) fr ws f k x b len s.4 s.2 ef ew in (
+      subst (λ (h : Hw). Runs (hw_of p) (seen_of p) h (seen_of (written fr ws r.left r))) (sym z.0)
+          (subst (λ (es : List Event). Runs (hw_of p) (seen_of p) (with_mem (put f k x (mem_of p.mem)) (hw_of p)) es) (sym z.1) (stores c v f k x s.0 s.1 s.2 lx s.3 (rest _ _))),
       heard_at z.1 (heard.stored c v k x),
     )
 

@@ -12,7 +12,7 @@ InRange ds = (k : ℕ) → k < length ds → ((slice_index_or ds k no_device).gr
 abbrev pub OutOfRange : List Device → Type 0
 OutOfRange ds = (k : ℕ) × (k < length ds) × ((32 ≤ (slice_index_or ds k no_device).group) ⊎ (32 ≤ (slice_index_or ds k no_device).driver))
 
--- m words of memory, s of spaces, l rows of the log
+-- m words of memory, s places of spaces, room for l events in the log
 abbrev pub Fit : ℕ → ℕ → List Device → ℕ → Type 0
 Fit m s ds l = (32768 ≤ m) × (m ≤ 33554432) × (m % 512 ≡ 0) × (s ≡ 32768) × (length ds ≤ 32) × InRange ds × (2050 ≤ l)
 

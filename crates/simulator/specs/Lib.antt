@@ -8,6 +8,7 @@ pub mod Refusals
 pub mod Effects
 pub mod Walks
 pub mod Heard
+pub mod Shows
 pub mod Turns
 pub mod Fit
 pub mod Draws

@@ -1,4 +1,4 @@
--- Memory and spaces as words: what each word is.
+-- Memory as words, and spaces as places: what each word is, and what each place shows.
 -- Assumes nothing.
 use Rattle.std.specs.Prelude.{◌≡◌, ℕ, ◌+◌, ◌*◌, ◌%◌, ◌<◌, cond, List, nat_lt, slice_index, slice_index_or}
 use Rattle.house.specs.Machine.{Shown, Nothing, Frame, Registers}

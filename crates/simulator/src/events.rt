@@ -1,4 +1,4 @@
-// What happened, as the log tells it. A call and its answer have no `PartialEq` and no `Debug`, and so an event has none.
+// What happened, as the log tells it. House's Call and Answer are fixed as they are, and an event has no more derives than they have.
 use house::{Answer, Call};
 
 #[derive(Clone, Copy)]

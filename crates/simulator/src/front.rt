@@ -31,7 +31,7 @@ impl<'a, T: Copy> Front<'a, T> {
     pub fn len(&self) -> usize
         ensures { result ≡ self.now.count }
     {
-        self.count
+        self.items().len()
     }
 
     // How many more there is room for.
@@ -80,7 +80,7 @@ impl<'a, T: Copy> Front<'a, T> {
 
 // Moves what is not of device `d` among the first `n` to the front, and says how much that is.
 // The loop stays: a slice has no `retain`, and the list is lent, with no heap.
-fn sift<T: Cached>(all: &mut [T], n: usize, d: u32) -> usize
+fn sift<T: Cached>(all: &mut [T], n: usize, d: u64) -> usize
     requires { n ≤ length all.old }
     ensures list { reverse (take result all.new) ≡ without T.device_of d (reverse (take n all.old)) }
     ensures within { result ≤ n }
@@ -88,7 +88,7 @@ fn sift<T: Cached>(all: &mut [T], n: usize, d: u32) -> usize
     let mut kept = 0;
     for i in 0..n {
         let x = all[i];
-        if x.device() != d {
+        if x.device() as u64 != d {
             all[kept] = x;
             kept += 1;
         }
@@ -99,8 +99,8 @@ fn sift<T: Cached>(all: &mut [T], n: usize, d: u32) -> usize
 impl<'a, T: Cached> Front<'a, T> {
     ghost use Rattle.simulator.specs.Lists.{newest};
 
-    // Takes all of a device out.
-    pub fn forget(&mut self, d: u32)
+    // Takes all of a device out; any number may be asked for.
+    pub fn forget(&mut self, d: u64)
         ensures list { newest self.new ≡ without T.device_of d (newest self.old) }
         ensures len { length self.new.all.now ≡ length self.old.all.now }
     {

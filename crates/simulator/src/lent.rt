@@ -1,16 +1,18 @@
 // What is lent to a machine, and whether one can be made of it.
-ghost use Rattle.std.specs.Prelude.{◌≡◌, ℕ, ◌<◌, ◌≤◌, length, MatchResult, nat_lt, ◌&&◌};
+ghost use Rattle.std.specs.Prelude.{◌≡◌, MatchResult, nat_lt, ◌&&◌};
 ghost use Rattle.std.specs.List.{list_all};
+ghost use Rattle.std.specs.IoError.{error_kind};
+ghost use Rattle.std.specs.declared.io.ErrorKind.TheVariants.{InvalidInput};
 ghost use Rattle.simulator.specs.Fit.{Fit, Misfit};
 
 use crate::cached::{LowerTable, PageEntry, UpperTable};
 use crate::devices::Device;
 use crate::events::Event;
 use crate::spaces::View;
-use std::error::Error;
-use std::{fmt, io};
+use std::io;
 
 // Words of memory, places of spaces, what the unit keeps at each level and has under way, and events for the log.
+// Who lends them makes each array: they have to lie with the lender, and an array's length is no computed const argument.
 #[derive(Drop)]
 pub struct Lent<'a> {
     pub memory: &'a mut [u64],
@@ -39,22 +41,9 @@ pub enum Unfit {
     Room,
 }
 
-impl fmt::Display for Unfit {
-    fn fmt<W: fmt::Write>(&self, f: &mut fmt::Formatter<W>) -> fmt::Result {
-        match self {
-            Unfit::Frames => write!(f, "memory is not 64 to 65536 frames"),
-            Unfit::Spaces => write!(f, "spaces are not 32 times 1024 places"),
-            Unfit::Devices => write!(f, "more than 32 devices"),
-            Unfit::Numbers => write!(f, "a group or a driver is not below 32"),
-            Unfit::Log => write!(f, "no room for the events of one call"),
-            Unfit::Room => write!(f, "too few words for the keeper"),
-        }
-    }
-}
-
-impl Error for Unfit {}
-
 impl From<Unfit> for io::Error {
+    ghost from_gives = { λ _ e. error_kind e ≡ InvalidInput };
+
     fn from(_e: Unfit) -> io::Error {
         io::Error::from(io::ErrorKind::InvalidInput)
     }
@@ -67,7 +56,7 @@ fn in_range(devices: &[Device]) -> bool
     devices.iter().all(|d| d.group < 32 && d.driver < 32)
 }
 
-// Can a machine be made of so many words of memory and of spaces, these devices, and so many rows of the log?
+// Can a machine be made of so many words of memory and of spaces, these devices, and room for so many events in the log?
 // If not, the first reason that applies.
 pub fn check(memory: usize, spaces: usize, devices: &[Device], log: usize) -> Result<(), Unfit>
     ensures { MatchResult result (λ _. Fit memory spaces devices.now log) (λ e. Misfit e memory spaces devices.now log) }

@@ -8,6 +8,7 @@ use std::ops::Range;
 #[derive(Drop)]
 pub struct Memory<'a> {
     words: &'a mut [u64],
+    // how many frames the words make
     frames: u32,
     ghost whole: { length words.now ≡ 512 * frames },
     ghost few: { frames ≤ 65536 },
@@ -44,7 +45,7 @@ impl<'a> Memory<'a> {
         self.frames
     }
 
-    // A word of a frame, 0 if there is no such frame.
+    // A word of a frame, 0 if there is no such frame, as a table holds 0 where there is nothing.
     pub fn word(&self, frame: u64, word: u32) -> u64
         requires { word < 512 }
         ensures { result ≡ mem_of self.now.words.now frame word }

@@ -15,7 +15,7 @@ use house::rounds;
 use script::{Line, Outcome};
 
 // All is over: each line that prints is answered so, until another machine is wanted; says whether one is.
-// No `loop`, here and in `next`: a loop is proved to end, and a script need not.
+// Counted: without a count a loop until the script ends needs a `Wait` bound, and no function here may have one.
 fn play_over<S: Script>(script: &mut S) -> bool {
     for _ in 0..u64::MAX {
         match script.line() {

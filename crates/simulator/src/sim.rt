@@ -4,6 +4,7 @@ ghost use Rattle.simulator.specs.Parts.{hw_of, seen_of};
 ghost use Rattle.simulator.specs.View.{parts_of};
 ghost use Rattle.simulator.specs.Heard.{Answered, HandedOver, outcome_of};
 ghost use Rattle.simulator.specs.Turns.{Turned};
+ghost use Rattle.simulator.specs.declared.sim.Ended.TheVariants as ended;
 ghost use Rattle.house.specs.Event.{Told};
 ghost use Rattle.house.specs.Meaning.{Explained};
 ghost use Rattle.house.specs.Promise.{can, start_of};
@@ -27,6 +28,8 @@ pub enum Ended {
 }
 
 impl From<NoRoom> for Ended {
+    ghost from_gives = { λ _ e. e ≡ ended.Full };
+
     fn from(_e: NoRoom) -> Ended {
         Ended::Full
     }
@@ -141,6 +144,7 @@ impl<'a, 'b, 's, S: Script> Machine for Sim<'a, 'b, 's, S> {
 }
 
 impl<'a, 'b, 's, S: Script> World for Sim<'a, 'b, 's, S> {
+    // Counted: without a count a loop until the script ends needs a `Wait` bound, and no function here may have one.
     fn next(&mut self) -> Option<(u32, Call)> {
         for _ in 0..u64::MAX {
             match self.turn() {

@@ -1,4 +1,4 @@
-// What the keeper may ask of the machine.
+// What the keeper may ask of the machine. These take plain numbers, since the trait `Machine` does.
 ghost use Rattle.std.specs.Prelude.{◌≡◌, ℕ, ◌+◌, ◌<◌, ◌≤◌, true, ◌∷◌, length, MatchResult};
 ghost use Rattle.house.specs.Machine.{Steps, counted, with_mem, put, shows, started, Frame, Registers, Nothing};
 ghost use Rattle.simulator.specs.declared.spaces.View.TheVariants.{Page};

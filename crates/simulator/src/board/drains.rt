@@ -41,10 +41,10 @@ impl<'a> Board<'a> {
         ensures goes { Goes (parts_of self.old) (parts_of self.new) }
         ensures forgot { Forgotten d (hw_of (parts_of self.new)) }
     {
-        self.ups.forget(d);
-        self.mids.forget(d);
-        self.leaves.forget(d);
-        self.flying.forget(d);
+        self.ups.forget(d as u64);
+        self.mids.forget(d as u64);
+        self.leaves.forget(d as u64);
+        self.flying.forget(d as u64);
     }
 
     pub fn drain(&mut self, d: u32) -> bool

@@ -1,8 +1,8 @@
-// What programs do with their spaces while nobody is served. Loading and storing are two functions: they share two arms of a line each.
-ghost use Rattle.std.specs.Prelude.{◌≡◌, ◌*◌, ◌<◌};
+// What programs do with their spaces while nobody is served.
 ghost use Rattle.script.specs.declared.forms.Line.TheVariants.{Load, Store};
 ghost use Rattle.simulator.specs.Parts.{seen_of, Ran};
 ghost use Rattle.simulator.specs.Heard.{Heard, said_of};
+ghost use Rattle.simulator.specs.Shows.{Showed};
 ghost use Rattle.simulator.specs.View.{parts_of};
 
 use super::Board;
@@ -13,27 +13,36 @@ use crate::spaces::View;
 use script::Outcome;
 
 impl<'a> Board<'a> {
-    // A program reads a word at a place.
-    pub fn load(&mut self, who: u32, v: u32, word: u32) -> Result<Outcome, Refused>
-        ensures ran { Ran (parts_of self.old) (parts_of self.new) }
-        ensures heard { Heard (seen_of (parts_of self.old)) (Load who v word) (said_of result) (seen_of (parts_of self.new)) }
+    // The frame that a place shows, or what is said where it shows none.
+    fn frame_shown(&mut self, who: u32, v: u32, word: u32) -> Result<Result<u32, Outcome>, Refused>
+        ensures { Showed (parts_of self.old) who v word result (parts_of self.new) }
     {
         in_space(who, v, word)?;
         match self.spaces.view(who, v) {
             View::Hidden => {
                 self.note_aside(Event::Faulted { who, v })?;
-                Ok(Outcome::Fault)
+                Ok(Err(Outcome::Fault))
             }
             View::Regs(d) => {
                 self.note_aside(Event::Poked { who, v, d })?;
-                Ok(Outcome::Poked)
+                Ok(Err(Outcome::Poked))
             }
-            View::Page(frame) => {
-                let x = self.memory.word(frame as u64, word);
-                self.note_aside(Event::Loaded { who, v, word, x })?;
-                Ok(Outcome::Loaded(x))
-            }
+            View::Page(frame) => Ok(Ok(frame)),
         }
+    }
+
+    // A program reads a word at a place.
+    pub fn load(&mut self, who: u32, v: u32, word: u32) -> Result<Outcome, Refused>
+        ensures ran { Ran (parts_of self.old) (parts_of self.new) }
+        ensures heard { Heard (seen_of (parts_of self.old)) (Load who v word) (said_of result) (seen_of (parts_of self.new)) }
+    {
+        let frame = match self.frame_shown(who, v, word)? {
+            Ok(frame) => frame,
+            Err(said) => return Ok(said),
+        };
+        let x = self.memory.word(frame as u64, word);
+        self.note_aside(Event::Loaded { who, v, word, x })?;
+        Ok(Outcome::Loaded(x))
     }
 
     // A program writes a word at a place.
@@ -41,21 +50,12 @@ impl<'a> Board<'a> {
         ensures ran { Ran (parts_of self.old) (parts_of self.new) }
         ensures heard { Heard (seen_of (parts_of self.old)) (Store who v word x) (said_of result) (seen_of (parts_of self.new)) }
     {
-        in_space(who, v, word)?;
-        match self.spaces.view(who, v) {
-            View::Hidden => {
-                self.note_aside(Event::Faulted { who, v })?;
-                Ok(Outcome::Fault)
-            }
-            View::Regs(d) => {
-                self.note_aside(Event::Poked { who, v, d })?;
-                Ok(Outcome::Poked)
-            }
-            View::Page(frame) => {
-                self.note_aside(Event::Stored { who, v, word, x })?;
-                self.memory.write(frame, word, x);
-                Ok(Outcome::Stored)
-            }
-        }
+        let frame = match self.frame_shown(who, v, word)? {
+            Ok(frame) => frame,
+            Err(said) => return Ok(said),
+        };
+        self.note_aside(Event::Stored { who, v, word, x })?;
+        self.memory.write(frame, word, x);
+        Ok(Outcome::Stored)
     }
 }

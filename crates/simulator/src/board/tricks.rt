@@ -1,5 +1,5 @@
 // What the unit and devices do by themselves, chosen by the seed.
-ghost use Rattle.std.specs.Prelude.{◌≡◌, ◌*◌, ◌<◌, ◌≤◌};
+ghost use Rattle.std.specs.Prelude.{◌≡◌};
 ghost use Rattle.simulator.specs.Parts.{Goes};
 ghost use Rattle.simulator.specs.View.{parts_of};
 

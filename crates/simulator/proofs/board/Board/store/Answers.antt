@@ -1,32 +1,16 @@
-use Rattle.std.proofs.Common.{refl, sym}
 use Rattle.script.specs.declared.forms.Line.TheVariants as line
 use Rattle.simulator.specs.View.{parts_of}
-use Rattle.simulator.proofs.Lines.{refused_at, unchanged, faults_at_store, pokes_at_store, store_stores}
+use Rattle.simulator.proofs.Lines.{refused_at, shown_full, store_stores}
 use Rattle.simulator.proofs.board.Board.store.Goals as goal
 
-pub returns-in_err-in_space : goal.returns-in_err-in_space
-returns-in_err-in_space c = let z = refused_at (parts_of c.args.self.now) (parts_of c.args.self.now) (line.Store c.args.who c.args.v c.args.word c.args.x) c.from_residual.result c.from_residual.ensures.0 (refl, refl) in record { ran = z.0; heard = z.1 }
+pub returns-in_err-frame : goal.returns-in_err-frame
+returns-in_err-frame c = let z = refused_at (parts_of c.args.self.now) (parts_of c.frame_shown.new.self) (line.Store c.args.who c.args.v c.args.word c.args.x) c.from_residual.result c.from_residual.ensures.0 c.in_err-frame.ensures in record { ran = z.0; heard = z.1 }
 
-pub returns-in_err-note_aside-in-Hidden : goal.returns-in_err-note_aside-in-Hidden
-returns-in_err-note_aside-in-Hidden c = let z = refused_at (parts_of c.args.self.now) (parts_of c.note_aside.new.self) (line.Store c.args.who c.args.v c.args.word c.args.x) c.from_residual-in_err-note_aside-in-Hidden.result c.from_residual-in_err-note_aside-in-Hidden.ensures.0 (unchanged _ _ c.in_err-note_aside-in-Hidden.ensures.parts) in record { ran = z.0; heard = z.1 }
+pub returns-in_err-note_aside : goal.returns-in_err-note_aside
+returns-in_err-note_aside c =
+    let s = shown_full (parts_of c.args.self.now) (parts_of c.frame_shown.new.self) (parts_of c.note_aside.new.self) c.args.who c.args.v c.args.word c.in-Ok.frame (rw c.in-Ok.is at c.in_ok-frame.ensures) c.in_err-note_aside.ensures.parts in
+    let z = refused_at (parts_of c.args.self.now) (parts_of c.note_aside.new.self) (line.Store c.args.who c.args.v c.args.word c.args.x) c.from_residual-in_err-note_aside.result c.from_residual-in_err-note_aside.ensures.0 s in record { ran = z.0; heard = z.1 }
 
-pub returns-in_err-note_aside-in-Regs : goal.returns-in_err-note_aside-in-Regs
-returns-in_err-note_aside-in-Regs c = let z = refused_at (parts_of c.args.self.now) (parts_of c.note_aside-in-Regs.new.self) (line.Store c.args.who c.args.v c.args.word c.args.x) c.from_residual-in_err-note_aside-in-Regs.result c.from_residual-in_err-note_aside-in-Regs.ensures.0 (unchanged _ _ c.in_err-note_aside-in-Regs.ensures.parts) in record { ran = z.0; heard = z.1 }
-
-pub returns-in_err-note_aside-in-Page : goal.returns-in_err-note_aside-in-Page
-returns-in_err-note_aside-in-Page c = let z = refused_at (parts_of c.args.self.now) (parts_of c.note_aside-in-Page.new.self) (line.Store c.args.who c.args.v c.args.word c.args.x) c.from_residual-in_err-note_aside-in-Page.result c.from_residual-in_err-note_aside-in-Page.ensures.0 (unchanged _ _ c.in_err-note_aside-in-Page.ensures.parts) in record { ran = z.0; heard = z.1 }
-
-pub returns-in_ok-note_aside-in-Hidden : goal.returns-in_ok-note_aside-in-Hidden
-returns-in_ok-note_aside-in-Hidden c =
-    let s = c.in_ok-in_space.ensures in
-    let z = faults_at_store (parts_of c.args.self.now) (parts_of c.note_aside.new.self) c.args.who c.args.v c.args.word c.args.x s.0 s.1 (sym c.in-Hidden.ensures.shown) c.in_ok-note_aside-in-Hidden.ensures.parts in record { ran = z.0; heard = z.1 }
-
-pub returns-in_ok-note_aside-in-Regs : goal.returns-in_ok-note_aside-in-Regs
-returns-in_ok-note_aside-in-Regs c =
-    let s = c.in_ok-in_space.ensures in
-    let z = pokes_at_store (parts_of c.args.self.now) (parts_of c.note_aside-in-Regs.new.self) c.args.who c.args.v c.args.word c.args.x c.in-Regs.d s.0 s.1 (sym c.in-Regs.ensures.shown) c.in_ok-note_aside-in-Regs.ensures.parts in record { ran = z.0; heard = z.1 }
-
-pub returns-in_ok-note_aside-in-Page : goal.returns-in_ok-note_aside-in-Page
-returns-in_ok-note_aside-in-Page c =
-    let s = c.in_ok-in_space.ensures in
-    let z = store_stores (parts_of c.args.self.now) (parts_of c.note_aside-in-Page.new.self) c.args.who c.args.v c.args.word c.in-Page.frame c.args.x c.write.new.self.frames c.write.new.self.words.now s.0 s.1 s.2 c.ranges.x.fits (sym c.in-Page.ensures.shown) c.args.self.now.memory.whole (c.args.self.now.shown _ _ (sym c.in-Page.ensures.view)) c.in_ok-note_aside-in-Page.ensures.parts c.write.ensures.frames c.write.ensures.words in record { ran = z.0; heard = z.1 }
+pub returns : goal.returns
+returns c =
+    let z = store_stores (parts_of c.args.self.now) (parts_of c.frame_shown.new.self) (parts_of c.note_aside.new.self) c.args.who c.args.v c.args.word c.in-Ok.frame c.args.x c.write.new.self.frames c.write.new.self.words.now (rw c.in-Ok.is at c.in_ok-frame.ensures) c.ranges.x.fits c.args.self.now.memory.whole c.in_ok-note_aside.ensures.parts c.write.ensures.frames c.write.ensures.words in record { ran = z.0; heard = z.1 }
