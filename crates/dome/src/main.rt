@@ -40,6 +40,7 @@ const DEVICES: [Device; 4] = [
 const EVENTS: usize = 50_000;
 
 fn main(rt: HostRuntime) -> io::Result<()> {
+    // Each array is made here, since it has to lie with who lends it.
     let mut memory = [0; 512 * FRAMES];
     let mut spaces = [View::Hidden; 32 * 1024];
     let mut ups = [UpperTable::default(); FRAMES];

@@ -87,6 +87,7 @@ fn close_held<M: Machine>(w: &mut M, room: &mut Room, who: u32, d: u32) -> bool
 }
 
 // Every device of `who` leaves frame 0 and is asked once to be forgotten, upwards, also after a no; says whether all were.
+// `devices` is the machine's own number, and its bound a clause.
 fn close_all<M: Machine>(w: &mut M, room: &mut Room, devices: u32, who: u32) -> bool
     requires soon { 64 ≤ (M.hw w.old).left }
     requires some { 0 < (M.hw w.old).frames }

@@ -1,5 +1,5 @@
-// An idle frame in hand: it is made noughts, and then becomes something, which takes it apart. It cannot be copied or let go, so
-// no frame is lost or given twice on any way out of a call.
+// An idle frame in hand: it is made noughts, and then becomes something, which takes it apart. It cannot be copied, and be let
+// go only as frame 0, so no frame is lost or given twice on any way out of a call.
 ghost use Rattle.std.specs.Prelude.{◌≡◌, ℕ, ◌<◌, ◌≤◌, false, MatchResult, ◌≢◌};
 ghost use Rattle.ledger.specs.declared.Use.TheVariants.{Idle};
 ghost use Rattle.ledger.specs.declared.Place.TheVariants.{Nothing};

@@ -38,6 +38,7 @@ const DEVICE_TABLE: u32 = 0;
 
 // What a program may ask for. v, at: places of an address space, below 1,024; d: a device; p: a page of a device's own address
 // space, below 262,144; to, who: programs.
+// Fixed from outside; a reader of scripts has a type of its own with the same variants.
 #[derive(Clone, Copy)]
 pub enum Call {
     Get {
@@ -178,7 +179,8 @@ impl Keeper {
         self.call(w, &mut room, who, c).unwrap_or_else(Answer::from)
     }
 
-    // One row for each call.
+    // One row for each call. Each call says in full what all promise: clauses speak of the machine, the answer and what it was called
+    // with, so neither a type nor a macro can hold them.
     fn call<M: Machine>(
         &mut self,
         w: &mut M,

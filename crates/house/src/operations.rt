@@ -1,4 +1,5 @@
 // Single operations of the machine, each with what it leaves of the count of operations and of the machine's shape.
+// Frames, words and devices are numbers here, with their bounds as clauses: so the trait `Machine` takes them.
 ghost use Rattle.std.specs.Prelude.{ℕ, ◌<◌};
 ghost use Rattle.house.specs.Machine.{Steps, Nothing, counted, with_mem, put, shows};
 ghost use Rattle.house.specs.Operations.{Asked1};

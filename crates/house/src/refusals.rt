@@ -55,7 +55,7 @@ impl From<Refusal> for Answer {
     }
 }
 
-// A place of an address space.
+// A place of an address space. A call's numbers become an Address only once this has tested them, and stay numbers until then.
 pub fn place(v: u32) -> Result<(), Refusal>
     ensures { MatchResult result (λ _. v < 1024) (λ e. (e ≡ Refusal.OutOfRange) × (1024 ≤ v)) }
 {

@@ -1,7 +1,8 @@
 // Where something stands: a place of a program's address space, a slot of a device's upper table.
 ghost use Rattle.std.specs.Prelude.{◌<◌};
 
-// A program, a device or a frame alone is a number: it has no second that travels with it.
+// A program, a device, a frame, a page or a word alone is a number: so it comes from a call or the machine, and a type would have each
+// call wrap it and each clause unwrap it.
 
 // Place v of program `who`.
 #[derive(Clone, Copy)]

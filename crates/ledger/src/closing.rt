@@ -1,4 +1,5 @@
 // Closing a device: it is closing while it may still reach what was lent to it, and shut once it was forgotten.
+// Whose the device is, and that its registers are hidden, are clauses: they hold of a room until its next write, so no type has them.
 ghost use Rattle.std.specs.Prelude.{◌≡◌, ℕ, ◌<◌, true, false, ◌≢◌};
 ghost use Rattle.ledger.specs.declared.Place.TheVariants.{Registers};
 ghost use Rattle.ledger.specs.declared.Use.TheVariants.{Idle};

@@ -1,4 +1,5 @@
-// The state of each device, and the frame of its upper table.
+// The state of each device, and the frame of its upper table. These take bare words:
+// a Room asks that they are consistent, and between two writes they need not be.
 ghost use Rattle.std.specs.Prelude.{◌≡◌, ℕ, ◌<◌, ◌≤◌, length};
 ghost use Rattle.ledger.specs.Words.{DeviceFits, device_from, device_word};
 ghost use Rattle.ledger.specs.Room.{device_of, top_of};

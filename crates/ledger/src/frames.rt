@@ -1,4 +1,5 @@
-// What each frame is used for.
+// What each frame is used for. These take bare words:
+// a Room asks that they are consistent, and between two writes they need not be.
 ghost use Rattle.std.specs.Prelude.{◌≡◌, ℕ, ◌+◌, ◌*◌, ◌<◌, length};
 ghost use Rattle.ledger.specs.Words.{UseFits, use_from};
 ghost use Rattle.ledger.specs.Room.{use_of};

@@ -1,4 +1,5 @@
-// Where the tables lie in the room: places, lower tables, devices, and two words for each frame.
+// Where the tables lie in the room: places, lower tables, devices, and two words for each frame. They lie in words since the room is
+// fixed from outside as a slice of words.
 ghost use Rattle.std.specs.Prelude.{◌≡◌, ◌+◌, ◌*◌};
 
 // Numbers, not an Address or a Slot: these say where any two numbers lead, and ask for nothing.

@@ -1,4 +1,5 @@
 // The pages of programs: a page stands at one place of one program, which shows it.
+// What a frame is used for and what a place shows are clauses: they hold of a room until its next write, so no type has them.
 ghost use Rattle.std.specs.Prelude.{◌≡◌, ℕ, ◌<◌, true};
 ghost use Rattle.ledger.specs.declared.Loan.TheVariants.{Home};
 ghost use Rattle.ledger.specs.declared.Use.TheVariants.{Idle, PageOf};

@@ -1,4 +1,5 @@
-// What each place of each program shows.
+// What each place of each program shows. These take bare words:
+// a Room asks that they are consistent, and between two writes they need not be.
 ghost use Rattle.std.specs.Prelude.{◌≡◌, ℕ, ◌<◌, ◌≤◌, length};
 ghost use Rattle.ledger.specs.Words.{PlaceFits, place_from, place_word};
 ghost use Rattle.ledger.specs.Room.{place_of};

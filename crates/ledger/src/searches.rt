@@ -50,7 +50,7 @@ fn lent_by(words: &[u64], frames: u32, who: u32, d: u32, p: u32) -> bool
     requires program { who < 32 }
     ensures { Decides result ((v : ℕ) × (v < 1024) × (is_at d p (loan_shown (use_of words.now) (place_of words.now who v)) ≡ true)) }
 {
-    // A loop, since a closure in `any` would need clauses of its own to say that `v` is a place.
+    // A loop: `any` was tried, and its closure needs clauses of its own to say that `v` is a place.
     for v in 0..1024 {
         if is_at(loan_shown(words, frames, Address { who, v }), d, p) {
             return true;

@@ -26,8 +26,8 @@ impl<'a> Room<'a> {
     }
 }
 
-// By index. `fill` was tried: the proof of it names the part that is filled, so a part cut short was found there and not by the
-// contract.
+// By index. `fill` was tried: its proof names the part that is filled, so that a part cut short was found there and not by the
+// contract; with lemmas that do not name it, it did not close.
 fn clear_tables(words: &mut [u64])
     requires { 65536 ≤ length words.old }
     ensures cleared { (i : ℕ) → i < 49216 → slice_index words.new i ≡ 0 }

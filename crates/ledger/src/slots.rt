@@ -1,4 +1,5 @@
-// The lower table at each slot of each device: its frame, if there is one.
+// The lower table at each slot of each device: its frame, if there is one. These take bare words:
+// a Room asks that they are consistent, and between two writes they need not be.
 ghost use Rattle.std.specs.Prelude.{◌≡◌, ℕ, ◌<◌, ◌≤◌, length};
 ghost use Rattle.ledger.specs.Words.{noted, note_of, number_from};
 ghost use Rattle.ledger.specs.Room.{low_of};

@@ -1,4 +1,5 @@
 // The page tables of devices: an open or closing device has one upper table, and lower ones at its slots.
+// What a frame is used for and what state a device is in are clauses: they hold of a room until its next write, so no type has them.
 ghost use Rattle.std.specs.Prelude.{◌≡◌, ◌<◌, false};
 ghost use Rattle.ledger.specs.declared.Use.TheVariants.{Idle, TableOf};
 ghost use Rattle.ledger.specs.declared.Device.TheVariants.{Shut};

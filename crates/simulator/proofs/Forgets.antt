@@ -69,14 +69,20 @@ both : (a b : Bool) → T a → T b → T (a && b)
 both true b x y = y
 both false b x y = x
 
+up_gone : (d : ℕ) (ws : List UpperTable) → T (no_up d (map up_of (without up_device d ws)))
+unfolding no_up
+up_gone d ws = gone up_of up_device d (no_up d) tt (λ w xs. both (not (eqb d w.device)) (no_up d xs)) ws
+
+mid_gone : (d : ℕ) (ws : List LowerTable) → T (no_mid d (map mid_of (without mid_device d ws)))
+unfolding no_mid
+mid_gone d ws = gone mid_of mid_device d (no_mid d) tt (λ w xs. both (not (eqb d w.device)) (no_mid d xs)) ws
+
+leaf_gone : (d : ℕ) (ws : List PageEntry) → T (no_leaf d (map leaf_of (without leaf_device d ws)))
+unfolding no_leaf
+leaf_gone d ws = gone leaf_of leaf_device d (no_leaf d) tt (λ w xs. both (not (eqb d w.device)) (no_leaf d xs)) ws
+
 pub forget_forgets : (d : ℕ) (p : Parts) → Forgotten d (hw_of (keeping (without up_device d p.ups) (without mid_device d p.mids) (without leaf_device d p.leaves) (without leaf_device d p.flying) p))
-unfolding no_up no_mid no_leaf
-forget_forgets d p = (
-  gone up_of up_device d (no_up d) tt (λ w xs. both (not (eqb d w.device)) (no_up d xs)) p.ups,
-  gone mid_of mid_device d (no_mid d) tt (λ w xs. both (not (eqb d w.device)) (no_mid d xs)) p.mids,
-  gone leaf_of leaf_device d (no_leaf d) tt (λ w xs. both (not (eqb d w.device)) (no_leaf d xs)) p.leaves,
-  gone leaf_of leaf_device d (no_leaf d) tt (λ w xs. both (not (eqb d w.device)) (no_leaf d xs)) p.flying,
-)
+forget_forgets d p = (up_gone d p.ups, mid_gone d p.mids, leaf_gone d p.leaves, leaf_gone d p.flying)
 
 -- the four lists, each as a call left it
 pub keeping_as : (p : Parts) (a a' : List UpperTable) (b b' : List LowerTable) (c c' d d' : List PageEntry) → a ≡ a' → b ≡ b' → c ≡ c' → d ≡ d' → keeping a b c d p ≡ keeping a' b' c' d' p

@@ -1,4 +1,5 @@
 // Frames of 512 words in one lent slice.
+// Plain numbers, as the trait `Machine` has them.
 ghost use Rattle.std.specs.Prelude.{◌≡◌, ℕ, ◌+◌, ◌*◌, ◌/◌, ◌%◌, ◌^◌, ◌<◌, ◌≤◌, length, IfSome, slice_index, slice_set};
 ghost use Rattle.simulator.specs.Store.{mem_of};
 

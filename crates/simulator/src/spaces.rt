@@ -1,4 +1,5 @@
 // What each of 1,024 places shows to each of 32 programs, in one lent slice.
+// Plain numbers, as the trait `Machine` has them.
 ghost use Rattle.std.specs.Prelude.{◌≡◌, ℕ, ◌+◌, ◌*◌, ◌<◌, length, slice_index_or, slice_set};
 
 // What a place shows: nothing, a page in a frame, a device's registers.

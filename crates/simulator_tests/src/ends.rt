@@ -53,6 +53,7 @@ impl Script for Loads {
 
 #[test]
 fn a_full_log_ends_well(rt: HostRuntime) -> Result<(), Fail> {
+    // Each array is made here, since it has to lie with who lends it.
     let mut memory = [0; 32768];
     let mut spaces = [View::Hidden; 32768];
     let mut ups = [UpperTable::default(); 8];

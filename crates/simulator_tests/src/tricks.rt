@@ -66,6 +66,7 @@ impl Counts {
 // The words that memory starts with look like tables, so that everything is there to be found.
 #[test]
 fn each_trick_is_played(rt: HostRuntime) -> Result<(), Fail> {
+    // Each array is made here, since it has to lie with who lends it.
     let mut memory = [0; 32768];
     let mut spaces = [View::Hidden; 32768];
     let mut ups = [UpperTable::default(); 8];

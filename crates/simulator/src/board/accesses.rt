@@ -1,4 +1,5 @@
 // Accesses by devices, and misses: each is noted, and happens only where there is room to note it.
+// Plain numbers, as the trait `Machine` has them.
 ghost use Rattle.std.specs.Prelude.{◌≡◌, ◌<◌, ◌≤◌, MatchResult};
 ghost use Rattle.house.specs.Machine.{frame_in, may_write};
 ghost use Rattle.simulator.specs.declared.refused.Refused.TheVariants.{NoFrame};

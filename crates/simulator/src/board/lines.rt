@@ -1,4 +1,5 @@
 // Lines about devices and the unit: accesses by the tables, keeping a page, writing by what was kept.
+// Their numbers are as a line of a script has them: tested here.
 ghost use Rattle.std.specs.Prelude.{◌≡◌, ◌<◌, IfOk, length};
 ghost use Rattle.script.specs.declared.forms.Line.TheVariants.{Read, Write, Keep, Kept as KeptWrite};
 ghost use Rattle.simulator.specs.Parts.{seen_of, Ran, Goes};

@@ -1,4 +1,4 @@
-// What programs do with their spaces while nobody is served.
+// What programs do with their spaces while nobody is served. Their numbers are as a line of a script has them: tested here.
 ghost use Rattle.script.specs.declared.forms.Line.TheVariants.{Load, Store};
 ghost use Rattle.simulator.specs.Parts.{seen_of, Ran};
 ghost use Rattle.simulator.specs.Heard.{Heard, said_of};

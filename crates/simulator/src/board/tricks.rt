@@ -33,7 +33,7 @@ impl<'a> Board<'a> {
         }
     }
 
-    // Which one is drawn. The match stays: functions over a board, which holds references, make no table today.
+    // Which one is drawn. The match stays: a table of functions would have these lines, too, and an index into it besides.
     fn play_trick(&mut self, dice: &mut Dice)
         ensures { Goes (parts_of self.old) (parts_of self.new) }
     {

@@ -1,4 +1,5 @@
 // The way through the tables in memory.
+// Plain numbers, as the trait `Machine` has them.
 ghost use Rattle.std.specs.Prelude.{◌≡◌, ◌*◌, ◌/◌, ◌<◌, ◌≤◌, IfSome, MatchOption};
 ghost use Rattle.house.specs.Machine.{walked};
 ghost use Rattle.simulator.specs.Parts.{hw_of};
