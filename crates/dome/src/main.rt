@@ -7,9 +7,9 @@ use console::Console;
 use script::Lines;
 use simulator::cached::{LowerTable, PageEntry, UpperTable};
 use simulator::devices::Device;
-use simulator::events::Event;
 use simulator::lent::Lent;
 use simulator::plays::play_on;
+use simulator::row::Row;
 use simulator::spaces::View;
 use std::io;
 use std::io::{BufReader, BufWriter};
@@ -47,7 +47,7 @@ fn main(rt: HostRuntime) -> io::Result<()> {
     let mut mids = [LowerTable::default(); FRAMES];
     let mut leaves = [PageEntry::default(); FRAMES];
     let mut flying = [PageEntry::default(); FRAMES];
-    let mut log = [Event::Drained { d: 0, said: false }; EVENTS];
+    let mut log = [Row::default(); EVENTS];
     let mut room = [0; 65536 + 2 * FRAMES];
     let mut console = Console::new(
         Lines::new(BufReader::new(rt.alloc(), rt.stdin())?),

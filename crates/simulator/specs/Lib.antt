@@ -1,6 +1,7 @@
 pub mod Kept
 pub mod Lists
 pub mod Notes
+pub mod Rows
 pub mod Store
 pub mod Parts
 pub mod View

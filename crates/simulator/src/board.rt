@@ -1,14 +1,14 @@
 // The machine: memory, spaces, what the unit keeps, and all that happened, each in lent memory.
 ghost use Rattle.std.specs.Prelude.{◌+◌, ◌≤◌, map, length};
-ghost use Rattle.simulator.specs.Lists.{newest};
 ghost use Rattle.simulator.specs.Notes.{event_of, owed};
+ghost use Rattle.simulator.specs.Rows.{events_of};
 ghost use Rattle.simulator.specs.Store.{PagesBelow};
 
 use crate::cached::{LowerTable, PageEntry, UpperTable};
 use crate::devices::Device;
 use crate::dice::Dice;
-use crate::events::Event;
 use crate::front::Front;
+use crate::log::Log;
 use crate::memory::Memory;
 use crate::spaces::Spaces;
 
@@ -35,11 +35,11 @@ pub struct Board<'a> {
     leaves: Front<'a, PageEntry>,
     flying: Front<'a, PageEntry>,
     left: u64,
-    log: Front<'a, Event>,
+    log: Log<'a>,
     // without a seed nothing happens by itself
     dice: Option<Dice>,
     refusals: u64,
     ghost few: { length devices.now ≤ 32 },
     ghost shown: { PagesBelow memory.frames spaces.places.now },
-    ghost room: { log.count + left + owed (map event_of (newest log)) ≤ length log.all.now },
+    ghost room: { log.rows.count + left + owed (map event_of (events_of log)) ≤ length log.rows.all.now },
 }

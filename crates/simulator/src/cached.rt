@@ -1,4 +1,4 @@
-// What the IOMMU may have cached of a device, at each level of its walk.
+// What the IOMMU may have cached of a device, at each level of its walk. Room for it may be lent from C.
 ghost use Rattle.std.specs.Prelude.{◌≡◌, ℕ, true};
 
 pub trait Cached: Copy + Eq {
@@ -12,6 +12,7 @@ pub trait Cached: Copy + Eq {
 }
 
 // An upper table: the frame that it is in.
+#[repr(C)]
 #[derive(Clone, Copy, PartialEq, Eq, Debug, Default)]
 pub struct UpperTable {
     pub device: u32,
@@ -19,6 +20,7 @@ pub struct UpperTable {
 }
 
 // A lower table, which covers the pages from 512 times `slot` on.
+#[repr(C)]
 #[derive(Clone, Copy, PartialEq, Eq, Debug, Default)]
 pub struct LowerTable {
     pub device: u32,
@@ -27,6 +29,7 @@ pub struct LowerTable {
 }
 
 // A page's entry: 1 and twice the frame, and 1 more where it may be written.
+#[repr(C)]
 #[derive(Clone, Copy, PartialEq, Eq, Debug, Default)]
 pub struct PageEntry {
     pub device: u32,

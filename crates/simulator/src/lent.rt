@@ -7,11 +7,11 @@ ghost use Rattle.simulator.specs.Fit.{Fit, Misfit};
 
 use crate::cached::{LowerTable, PageEntry, UpperTable};
 use crate::devices::Device;
-use crate::events::Event;
+use crate::row::Row;
 use crate::spaces::View;
 use std::io;
 
-// Words of memory, places of spaces, what the unit keeps at each level and has under way, and events for the log.
+// Words of memory, places of spaces, what the unit keeps at each level and has under way, and rows for the log.
 // Who lends them makes each array: they have to lie with the lender, and an array's length is no computed const argument.
 #[derive(Drop)]
 pub struct Lent<'a> {
@@ -21,7 +21,7 @@ pub struct Lent<'a> {
     pub mids: &'a mut [LowerTable],
     pub leaves: &'a mut [PageEntry],
     pub flying: &'a mut [PageEntry],
-    pub log: &'a mut [Event],
+    pub log: &'a mut [Row],
 }
 
 // Why no machine can be made of it.

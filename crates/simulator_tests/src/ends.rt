@@ -5,9 +5,9 @@ use script::{Line, Outcome};
 use simulator::cached::{LowerTable, PageEntry, UpperTable};
 use simulator::devices::Device;
 use simulator::ends::{BadLine, Script};
-use simulator::events::Event;
 use simulator::lent::Lent;
 use simulator::plays::play_on;
+use simulator::row::Row;
 use simulator::spaces::View;
 use std::test::Fail;
 
@@ -60,7 +60,7 @@ fn a_full_log_ends_well(rt: HostRuntime) -> Result<(), Fail> {
     let mut mids = [LowerTable::default(); 8];
     let mut leaves = [PageEntry::default(); 8];
     let mut flying = [PageEntry::default(); 8];
-    let mut log = [Event::Drained { d: 0, said: false }; 2100];
+    let mut log = [Row::default(); 2100];
     let mut room = [0; 65664];
     let mut loads = Loads {
         left: 86,

@@ -6,6 +6,7 @@ use simulator::cached::{LowerTable, PageEntry, UpperTable};
 use simulator::devices::Device;
 use simulator::events::Event;
 use simulator::lent::{Lent, check as fits};
+use simulator::row::Row;
 use simulator::spaces::View;
 use std::test::Fail;
 
@@ -73,7 +74,7 @@ fn each_trick_is_played(rt: HostRuntime) -> Result<(), Fail> {
     let mut mids = [LowerTable::default(); 8];
     let mut leaves = [PageEntry::default(); 8];
     let mut flying = [PageEntry::default(); 8];
-    let mut log = [Event::Drained { d: 0, said: false }; 4096];
+    let mut log = [Row::default(); 4096];
     fits(32768, 32768, &DEVICES, 4096)?;
     let mut board = Board::new(
         Lent {

@@ -3,8 +3,14 @@
 //! `docs/MODEL.md` of this repository says what each means.
 
 mod event;
+mod line;
+mod outcome;
+mod transcript;
 
 pub use event::Event;
+pub use line::{LONGEST, Line};
+pub use outcome::Outcome;
+pub use transcript::Transcript;
 
 use std::fmt;
 

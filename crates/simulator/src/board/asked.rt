@@ -121,7 +121,7 @@ impl<'a> Board<'a> {
     pub fn note_aside(&mut self, e: Event) -> Result<(), NoRoom>
         requires { aside (event_of e) ≡ true }
         ensures parts { MatchResult result (λ _. parts_of self.new ≡ noted (e ∷ (parts_of self.old).notes) (parts_of self.old)) (λ _. parts_of self.new ≡ parts_of self.old) }
-        ensures room { MatchResult result (λ _. self.old.log.count + self.old.left + 1 < length self.old.log.all.now) (λ _. length self.old.log.all.now ≤ self.old.log.count + self.old.left + 1) }
+        ensures room { MatchResult result (λ _. self.old.log.rows.count + self.old.left + 1 < length self.old.log.rows.all.now) (λ _. length self.old.log.rows.all.now ≤ self.old.log.rows.count + self.old.left + 1) }
     {
         if self.log.room() as u64 <= self.left + 1 {
             return Err(NoRoom);

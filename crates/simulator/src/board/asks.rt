@@ -27,7 +27,7 @@ const CALL: usize = ASKINGS as usize + 2;
 impl<'a> Board<'a> {
     // A program asks for something, for which there is room.
     fn ask(&mut self, who: u32, request: Request) -> Result<Reply, Refused>
-        requires { self.old.log.count + 2050 ≤ length self.old.log.all.now }
+        requires { self.old.log.rows.count + 2050 ≤ length self.old.log.rows.all.now }
         ensures { Replied (Calls who request) (parts_of self.old) (reply_of result) (parts_of self.new) }
     {
         below(who, PROGRAMS)?;
@@ -68,7 +68,7 @@ impl<'a> Board<'a> {
 
     // What becomes of a line, while there is room for a call.
     fn reply(&mut self, line: Line) -> Result<Reply, Refused>
-        requires { self.old.log.count + 2050 ≤ length self.old.log.all.now }
+        requires { self.old.log.rows.count + 2050 ≤ length self.old.log.rows.all.now }
         ensures { Replied line (parts_of self.old) (reply_of result) (parts_of self.new) }
     {
         Ok(match line {

@@ -21,7 +21,7 @@ impl<'a> Board<'a> {
         ensures lowers { result.lowers ≡ self.now.mids.count }
         ensures pages { result.pages ≡ self.now.leaves.count }
         ensures accesses { result.accesses ≡ self.now.flying.count }
-        ensures events { result.events ≡ self.now.log.count }
+        ensures events { result.events ≡ self.now.log.rows.count }
     {
         Census {
             uppers: self.ups.len(),

@@ -10,6 +10,7 @@ use super::asks::ASKINGS;
 use crate::devices::Device;
 use crate::front::Front;
 use crate::lent::Lent;
+use crate::log::Log;
 use crate::memory::Memory;
 use crate::spaces::Spaces;
 
@@ -43,7 +44,7 @@ impl<'a> Board<'a> {
             leaves: Front::new(leaves),
             flying: Front::new(flying),
             left: ASKINGS,
-            log: Front::new(log),
+            log: Log::new(log),
             dice: None,
             refusals: 0,
         }

@@ -7,4 +7,4 @@ pub invariant_of-result-clause-shown : goal.invariant_of-result-clause-shown
 invariant_of-result-clause-shown c = none_shown c.new-2.result.places.now c.new-2.ensures
 
 pub invariant_of-result-clause-room : goal.invariant_of-result-clause-room
-invariant_of-result-clause-room c = room_start _ c.new-7.result.count _ c.new-7.ensures.list (omega arith)
+invariant_of-result-clause-room c = room_start _ c.new-7.result.rows.count _ c.new-7.ensures.events (omega arith)

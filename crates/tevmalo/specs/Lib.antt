@@ -1,0 +1,4 @@
+pub mod Outcomes
+pub mod Sheets
+pub mod Reasons
+pub mod Decoded
