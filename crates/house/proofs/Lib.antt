@@ -58,3 +58,4 @@ pub mod EndedPlaces
 pub mod EndRooms
 pub mod Ends
 pub mod Refused
+mod PassedOver

@@ -47,6 +47,10 @@ impl Sweep for RegistersOf {
         room.hide_registers(place, self.device)
     }
 
+    fn present(self, room: &Room, who: u32, first: u32) -> bool {
+        room.any_registers(who, first)
+    }
+
     ghost laws = { λ s. registers_taken s.device };
 }
 

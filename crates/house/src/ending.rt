@@ -47,6 +47,10 @@ impl Sweep for AnyRegisters {
         }
     }
 
+    fn present(self, room: &Room, who: u32, first: u32) -> bool {
+        room.any_registers(who, first)
+    }
+
     ghost laws = { λ _. any_registers_taken };
 }
 
@@ -63,6 +67,10 @@ impl Sweep for All {
 
     fn take(self, room: &mut Room, place: Address) -> bool {
         room.vacate(place)
+    }
+
+    fn present(self, room: &Room, who: u32, first: u32) -> bool {
+        room.any_shown(who, first)
     }
 
     ghost laws = { λ _. all_taken };

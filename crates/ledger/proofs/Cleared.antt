@@ -7,11 +7,11 @@ use Rattle.ledger.specs.declared.Use.{Use}
 use Rattle.ledger.specs.declared.Use.TheVariants.{House, Idle}
 use Rattle.ledger.specs.declared.Place.TheVariants.{Nothing}
 use Rattle.ledger.specs.declared.Device.TheVariants.{Shut}
-use Rattle.ledger.specs.Words.{use_from, place_from, device_from, number_from}
-use Rattle.ledger.specs.Room.{use_of, place_of, device_of, top_of, low_of}
+use Rattle.ledger.specs.Words.{use_from, shown_in, tag_in, place_from, device_from, number_from}
+use Rattle.ledger.specs.Room.{use_of, place_of, tag_of, device_of, top_of, low_of}
 use Rattle.ledger.specs.View.{view_of}
 use Rattle.ledger.specs.Uses.{is_at, loan_in}
-use Rattle.ledger.specs.Consistent.{FrameOk, Coherent}
+use Rattle.ledger.specs.Consistent.{FrameOk, Coherent, Tagged}
 use Rattle.ledger.specs.Changes.{empty}
 use Rattle.ledger.proofs.Entries.{record_at, record_kept, same_view}
 
@@ -83,10 +83,17 @@ module _ (n : ℕ) (r : List ℕ) (some : 0 < n) (idle : (f : ℕ) → f < n →
   unfolding place_of device_of top_of low_of
   cleared_view =
       same_view (view_of n r) empty (fun_ext uses)
-      (fun_ext (λ c. fun_ext (λ v. always (ltb c 32 && ltb v 1024) _ _ (λ e. let b = below2 c 32 v 1024 e in ap place_from (zeros (c * 1024 + v) (omega (arith, b.0, b.1)))))))
+      (fun_ext (λ c. fun_ext (λ v. always (ltb c 32 && ltb v 1024) _ _ (λ e. let b = below2 c 32 v 1024 e in ap (λ (x : ℕ). place_from (shown_in x)) (zeros (c * 1024 + v) (omega (arith, b.0, b.1)))))))
       (fun_ext (λ d. always (ltb d 32) _ _ (λ e. let b = ltb-true d 32 e in ap device_from (zeros (49152 + 2 * d) (omega arith)))))
       (fun_ext (λ d. always (ltb d 32) _ _ (λ e. let b = ltb-true d 32 e in ap number_from (zeros (49152 + 2 * d + 1) (omega arith)))))
       (fun_ext (λ d. fun_ext (λ i. always (ltb d 32 && ltb i 512) _ _ (λ e. let b = below2 d 32 i 512 e in ap number_from (zeros (32768 + d * 512 + i) (omega (arith, b.0, b.1)))))))
+
+  no_tags : (c v : ℕ) → tag_of r c v ≡ 0
+  unfolding tag_of
+  no_tags c v = always (ltb c 32 && ltb v 1024) _ _ (λ e. let b = below2 c 32 v 1024 e in ap tag_in (zeros (c * 1024 + v) (omega (arith, b.0, b.1))))
+
+  pub cleared_tags : Tagged (tag_of r) (view_of n r)
+  cleared_tags = subst (Tagged (tag_of r)) (sym cleared_view) no_tags
 
   pub cleared_coherent : Coherent (view_of n r)
   cleared_coherent = subst Coherent (sym cleared_view) empty_coherent

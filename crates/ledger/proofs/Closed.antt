@@ -9,7 +9,7 @@ use Rattle.ledger.specs.declared.Use.{Use}
 use Rattle.ledger.specs.declared.Use.TheVariants.{House, TableOf, Idle, PageOf}
 use Rattle.ledger.specs.declared.Place.TheVariants.{Registers}
 use Rattle.ledger.specs.declared.Device.TheVariants.{Shut, Closing}
-use Rattle.ledger.specs.Room.{place_of, device_of, top_of, low_of}
+use Rattle.ledger.specs.Room.{place_of, tag_of, device_of, top_of, low_of}
 use Rattle.ledger.specs.View.{View, view_of, with_use, with_low, with_top, with_device}
 use Rattle.ledger.specs.Uses.{is_with, is_lent, is_shut, loan_in, owner_is, leaving_from, home_from, map_loan, no_lower, no_lowers, no_table}
 use Rattle.ledger.specs.Changes.{with_uses, closing_for, shut_device, without_lower, without_lowers}
@@ -17,6 +17,7 @@ use Rattle.ledger.specs.Consistent.{FrameOk, Coherent, Consistent}
 use Rattle.ledger.proofs.Entries.{same_view}
 use Rattle.ledger.proofs.Moves.{at1, at2, same1, same2, not_shut}
 use Rattle.ledger.proofs.Laws.{within, low_within, changed}
+use Rattle.ledger.proofs.Tags.{no_loan, tags_stay}
 use Rattle.ledger.proofs.Coherence.{upper, closing_coherent, dropped_coherent, shut_coherent}
 use Rattle.ledger.proofs.Operations.{Made}
 
@@ -41,14 +42,14 @@ abbrev Free : ℕ → View → Type 0
 Free d s = (g : ℕ) → is_with d (loan_in (s.used g)) ≡ false
 
 module _ (n : ℕ) (r m t : List ℕ) (c d : ℕ) (K : Consistent n m) (len : length t ≡ length m) (owner : owner_is c (device_of r d) ≡ true) (hidden : (a b : ℕ) → place_of r a b ≡ Registers d → ⊥) where
-  pub closing_made : view_of n m ≡ with_uses (map_loan (leaving_from d)) (view_of n r) → view_of n t ≡ with_device d (Closing c) (view_of n m) → Made n t (closing_for c d (view_of n r))
-  closing_made e k = (
+  pub closing_made : view_of n m ≡ with_uses (map_loan (leaving_from d)) (view_of n r) → view_of n t ≡ with_device d (Closing c) (view_of n m) → tag_of t ≡ tag_of m → Made n t (closing_for c d (view_of n r))
+  closing_made e k i = (
     k ∙ ap (with_device d (Closing c)) e,
     changed n m t _ K len k (closing_coherent (view_of n m) K.coherent d c (ap (λ (s : View). owner_is c (s.device d)) e ∙ owner) (λ g. ap (λ (s : View). is_lent d (loan_in (s.used g))) e ∙ not_lent d ((view_of n r).used g))
-        (λ a b h. hidden a b (ap (λ (s : View). s.place a b) (sym e) ∙ h))),
+        (λ a b h. hidden a b (ap (λ (s : View). s.place a b) (sym e) ∙ h))) (tags_stay (tag_of m) (tag_of t) (view_of n m) K.tags (view_of n m).used i (λ _. refl)),
   )
 
-other_lower : (d i : ℕ) (u : Use) → (u ≡ TableOf d (Lower i) → ⊥) → u ≡ no_lower d i u
+pub other_lower : (d i : ℕ) (u : Use) → (u ≡ TableOf d (Lower i) → ⊥) → u ≡ no_lower d i u
 other_lower d i House h = refl
 other_lower d i (TableOf e Upper) h = refl
 other_lower d i (TableOf e (Lower j)) h = at2 (λ z. TableOf e (Lower j) ≡ z) e d j i Idle (TableOf e (Lower j)) (λ p q. absurd (h (cc))) (λ _. refl)
@@ -56,7 +57,7 @@ other_lower d i Idle h = refl
 other_lower d i (PageOf c v l) h = refl
 
 module _ (n : ℕ) (r : List ℕ) (d i : ℕ) (K : Consistent n r) where
-  lower_frame : (g : ℕ) → (view_of n r).used g ≡ TableOf d (Lower i) → low_of r d i ≡ suc g
+  pub lower_frame : (g : ℕ) → (view_of n r).used g ≡ TableOf d (Lower i) → low_of r d i ≡ suc g
   lower_frame g e = subst (FrameOk (place_of r) (device_of r) (top_of r) (low_of r) g) e (K.coherent.frames g)
 
   pub lower_within : (t : ℕ) → low_of r d i ≡ suc t → t < n
@@ -65,13 +66,14 @@ module _ (n : ℕ) (r : List ℕ) (d i : ℕ) (K : Consistent n r) where
       clash : Idle ≡ TableOf d (Lower i) → ⊥
       clash z = let y : ◌≡◌ {A = ℕ} 0 1 = cc in omega arith
 
-  pub dropped_made : (m o : List ℕ) (t : ℕ) → low_of r d i ≡ suc t → Free d (view_of n r) → length o ≡ length r → view_of n m ≡ with_use t Idle (view_of n r) → view_of n o ≡ with_low d i 0 (view_of n m) → Made n o (without_lower d i (view_of n r))
-  dropped_made m o t noted free len k j =
+  pub dropped_made : (m o : List ℕ) (t : ℕ) → low_of r d i ≡ suc t → Free d (view_of n r) → length o ≡ length r → view_of n m ≡ with_use t Idle (view_of n r) → view_of n o ≡ with_low d i 0 (view_of n m) → tag_of o ≡ tag_of r → Made n o (without_lower d i (view_of n r))
+  dropped_made m o t noted free len k j h =
       let is = K.coherent.lows d i t noted in
       let both = j ∙ ap (with_low d i 0) k in (
         both ∙ ap (with_low d i 0) (same_view (with_use t Idle (view_of n r)) (with_uses (no_lower d i) (view_of n r)) (fun_ext (λ g. at1 (λ z. z ≡ no_lower d i ((view_of n r).used g)) g t Idle ((view_of n r).used g)
             (λ q. sym (ap (λ (f : ℕ). no_lower d i ((view_of n r).used f)) q ∙ ap (no_lower d i) is ∙ same2 d i Idle (TableOf d (Lower i)))) (λ ne. other_lower d i ((view_of n r).used g) (λ q. let h = lower_frame g q in ne (omega arith))))) refl refl refl refl),
-        changed n r o _ K len both (dropped_coherent (view_of n r) K.coherent d i t noted free),
+        changed n r o _ K len both (dropped_coherent (view_of n r) K.coherent d i t noted free)
+            (tags_stay (tag_of r) (tag_of o) (view_of n r) K.tags (λ g. cond (eqb g t) Idle ((view_of n r).used g)) h (no_loan (view_of n r) t Idle refl (ap loan_in is))),
       )
 
 -- slots below k
@@ -173,9 +175,13 @@ module _ (n : ℕ) (r t : List ℕ) (d : ℕ) (K : Consistent n r) where
       clash z = let y : ◌≡◌ {A = ℕ} 0 1 = cc in omega arith
 
   pub shut_made : (m o : List ℕ) (f : ℕ) → f ≡ top_of r d → length t ≡ length r → is_shut (device_of r d) ≡ false → ((i : ℕ) → low_of r d i ≡ 0) → Free d (view_of n r) → ((a b : ℕ) → place_of r a b ≡ Registers d → ⊥) →
-      view_of n m ≡ with_use f Idle (view_of n r) → view_of n o ≡ with_top d 0 (view_of n m) → view_of n t ≡ with_device d Shut (view_of n o) → Made n t (with_device d Shut (with_top d 0 (with_use (top_of r d) Idle (view_of n r))))
-  shut_made m o f is len live none free hidden e k j =
-      let q = j ∙ ap (with_device d Shut) (k ∙ ap (with_top d 0) (e ∙ ap (λ (g : ℕ). with_use g Idle (view_of n r)) is)) in (q, changed n r t _ K len q (shut_coherent (view_of n r) K.coherent d live none free hidden))
+      view_of n m ≡ with_use f Idle (view_of n r) → view_of n o ≡ with_top d 0 (view_of n m) → view_of n t ≡ with_device d Shut (view_of n o) → tag_of t ≡ tag_of r → Made n t (with_device d Shut (with_top d 0 (with_use (top_of r d) Idle (view_of n r))))
+  shut_made m o f is len live none free hidden e k j h =
+      let q = j ∙ ap (with_device d Shut) (k ∙ ap (with_top d 0) (e ∙ ap (λ (g : ℕ). with_use g Idle (view_of n r)) is)) in (
+        q,
+        changed n r t _ K len q (shut_coherent (view_of n r) K.coherent d live none free hidden)
+            (tags_stay (tag_of r) (tag_of t) (view_of n r) K.tags (λ g. cond (eqb g (top_of r d)) Idle ((view_of n r).used g)) h (no_loan (view_of n r) (top_of r d) Idle refl (ap loan_in (top_is live)))),
+      )
 
 -- the tables of d are idle, and it is shut
 abbrev without_tables : ℕ → View → View

@@ -1,5 +1,5 @@
 -- A write of one entry: what the room says after it, of that entry and of all others.
-use Rattle.std.proofs.Common.{◌≡◌, ℕ, ◌+◌, ◌*◌, ◌<◌, ◌≤◌, Bool, true, false, cond, ◌&&◌, eqb, ltb, ◌≢◌, ◌⊎◌, List, length, get_or, set, refl, ap, ◌∙◌, inl, inr, ⊎_elim, arith, rules}
+use Rattle.std.proofs.Common.{◌≡◌, ℕ, ◌+◌, ◌*◌, ◌%◌, ◌<◌, ◌≤◌, Bool, true, false, cond, ◌&&◌, eqb, ltb, ◌≢◌, ◌⊎◌, List, length, get_or, set, sym, refl, ap, ◌∙◌, inl, inr, ⊎_elim, arith, rules}
 use mathlib.Core.Path.{fun_ext}
 use Rattle.std.proofs.lemmas.List.{get_or-set_same, get_or-set_other, length-set}
 use Rattle.std.proofs.lemmas.Bool.{ltb-true, lt-ltb, eq-eqb, ne_eqb, cases_eq, and_parts}
@@ -9,9 +9,9 @@ use Rattle.ledger.specs.declared.Place.{Place}
 use Rattle.ledger.specs.declared.Place.TheVariants.{Nothing, Page, Registers}
 use Rattle.ledger.specs.declared.Device.{Device}
 use Rattle.ledger.specs.declared.Device.TheVariants.{Shut, Opened, Closing}
-use Rattle.ledger.specs.Words.{use_from, place_from, place_word, PlaceFits, device_from, device_word, DeviceFits, number_from}
-use Rattle.ledger.specs.Room.{use_of, place_of, device_of, top_of, low_of}
-use Rattle.ledger.specs.View.{View, view_of, with_use, with_place, with_device, with_top, with_low}
+use Rattle.ledger.specs.Words.{use_from, shown_in, tag_in, place_from, place_word, PlaceFits, device_from, device_word, DeviceFits, number_from}
+use Rattle.ledger.specs.Room.{use_of, place_of, tag_of, device_of, top_of, low_of}
+use Rattle.ledger.specs.View.{View, view_of, with_use, with_place, with_tag, with_device, with_top, with_low}
 
 guarded : {A : Type 0} (b : Bool) (x y z : A) → (b ≡ true → x ≡ y) → cond b x z ≡ cond b y z
 guarded true x y z h = h refl
@@ -24,7 +24,12 @@ below2 a m b n e = let h = and_parts (ltb a m) (ltb b n) e in (ltb-true a m h.0,
 pub same_places : (r s : List ℕ) → ((i : ℕ) → i < 32768 → get_or s i 0 ≡ get_or r i 0) → place_of s ≡ place_of r
 unfolding place_of
 same_places r s h =
-    fun_ext (λ c. fun_ext (λ v. guarded (ltb c 32 && ltb v 1024) _ _ _ (λ e. let b = below2 c 32 v 1024 e in ap place_from (h (c * 1024 + v) (omega (arith, b.0, b.1))))))
+    fun_ext (λ c. fun_ext (λ v. guarded (ltb c 32 && ltb v 1024) _ _ _ (λ e. let b = below2 c 32 v 1024 e in ap (λ (x : ℕ). place_from (shown_in x)) (h (c * 1024 + v) (omega (arith, b.0, b.1))))))
+
+pub same_tags : (r s : List ℕ) → ((i : ℕ) → i < 32768 → get_or s i 0 ≡ get_or r i 0) → tag_of s ≡ tag_of r
+unfolding tag_of
+same_tags r s h =
+    fun_ext (λ c. fun_ext (λ v. guarded (ltb c 32 && ltb v 1024) _ _ _ (λ e. let b = below2 c 32 v 1024 e in ap tag_in (h (c * 1024 + v) (omega (arith, b.0, b.1))))))
 
 pub same_lows : (r s : List ℕ) → ((i : ℕ) → 32768 ≤ i → i < 49152 → get_or s i 0 ≡ get_or r i 0) → low_of s ≡ low_of r
 unfolding low_of
@@ -77,10 +82,17 @@ module _ (r : List ℕ) (f lo hi : ℕ) (fits : 65537 + 2 * f < length r) where
       swapped g (inl q) = rw (eq-eqb g f q, q, lt-ltb f n l)
       swapped g (inr q) = rw (ne_eqb g f q)
 
+  pub wrote_use_tags : tag_of after ≡ tag_of r
+  wrote_use_tags = same_tags r after (λ i b. record_kept i (λ z. omega arith) (λ z. omega arith))
+
 -- Reading within a table's bounds.
-pub read_place : (r : List ℕ) (c v : ℕ) → c < 32 → v < 1024 → place_from (get_or r (c * 1024 + v) 0) ≡ place_of r c v
+pub read_place : (r : List ℕ) (c v : ℕ) → c < 32 → v < 1024 → place_from (shown_in (get_or r (c * 1024 + v) 0)) ≡ place_of r c v
 unfolding place_of
 read_place r c v a b = rw (lt-ltb c 32 a, lt-ltb v 1024 b)
+
+pub read_tag : (r : List ℕ) (c v : ℕ) → c < 32 → v < 1024 → tag_in (get_or r (c * 1024 + v) 0) ≡ tag_of r c v
+unfolding tag_of
+read_tag r c v a b = rw (lt-ltb c 32 a, lt-ltb v 1024 b)
 
 pub read_device : (r : List ℕ) (d : ℕ) → d < 32 → device_from (get_or r (49152 + 2 * d) 0) ≡ device_of r d
 unfolding device_of
@@ -116,6 +128,9 @@ module _ (r : List ℕ) (at x n : ℕ) where
   kept_places : 32768 ≤ at → place_of (set r at x) ≡ place_of r
   kept_places l = same_places r (set r at x) (λ i b. kept i (λ z. omega arith))
 
+  kept_tags : 32768 ≤ at → tag_of (set r at x) ≡ tag_of r
+  kept_tags l = same_tags r (set r at x) (λ i b. kept i (λ z. omega arith))
+
   kept_lows : (at < 32768) ⊎ (49152 ≤ at) → low_of (set r at x) ≡ low_of r
   kept_lows (inl l) = same_lows r (set r at x) (λ i a b. kept i (λ z. omega arith))
   kept_lows (inr l) = same_lows r (set r at x) (λ i a b. kept i (λ z. omega arith))
@@ -126,8 +141,16 @@ module _ (r : List ℕ) (at x n : ℕ) where
   kept_tops : ((d : ℕ) → d < 32 → 49152 + 2 * d + 1 ≢ at) → top_of (set r at x) ≡ top_of r
   kept_tops h = same_tops r (set r at x) (λ d l. kept _ (h d l))
 
+-- a place that is written as it was
+pub same_place : (c v : ℕ) (s : View) (x : Place) → s.place c v ≡ x → with_place c v x s ≡ s
+same_place c v s x e = same_view (with_place c v x s) s refl (fun_ext (λ a. fun_ext (λ b. here a b (cases_two a c b v)))) refl refl refl
+  where
+    here : (a b : ℕ) → ((a ≡ c) × (b ≡ v)) ⊎ (((eqb a c && eqb b v) ≡ false) × ((a ≡ c) × (b ≡ v) → ⊥)) → cond (eqb a c && eqb b v) x (s.place a b) ≡ s.place a b
+    here a b (inl q) = rw (both_eq a c b v q.0 q.1, q.0, q.1) (sym e)
+    here a b (inr q) = rw q.0
+
 module _ (r : List ℕ) (n x : ℕ) (long : 65536 ≤ length r) where
-  pub wrote_place : (c v : ℕ) (p : Place) → c < 32 → v < 1024 → place_from x ≡ p → view_of n (set r (c * 1024 + v) x) ≡ with_place c v p (view_of n r)
+  pub wrote_place : (c v : ℕ) (p : Place) → c < 32 → v < 1024 → place_from (shown_in x) ≡ p → view_of n (set r (c * 1024 + v) x) ≡ with_place c v p (view_of n r)
   unfolding place_of
   wrote_place c v p hc hv e =
       same_view (view_of n (set r (c * 1024 + v) x)) (with_place c v p (view_of n r)) (kept_uses r _ x n (omega arith)) (fun_ext (λ a. fun_ext (λ b. here a b (cases_two a c b v))))
@@ -138,7 +161,26 @@ module _ (r : List ℕ) (n x : ℕ) (long : 65536 ≤ length r) where
       here a b (inr q) =
           rw q.0
           (guarded (ltb a 32 && ltb b 1024) _ _ _
-          (λ t. let s = below2 a 32 b 1024 t in ap place_from (kept r _ x n (a * 1024 + b) (λ z. q.1 (omega (arith, s.0, s.1, z), omega (arith, s.0, s.1, z))))))
+          (λ t. let s = below2 a 32 b 1024 t in ap (λ (w : ℕ). place_from (shown_in w)) (kept r _ x n (a * 1024 + b) (λ z. q.1 (omega (arith, s.0, s.1, z), omega (arith, s.0, s.1, z))))))
+
+  pub wrote_tag : (c v y : ℕ) → c < 32 → v < 1024 → tag_in x ≡ y → tag_of (set r (c * 1024 + v) x) ≡ with_tag c v y (tag_of r)
+  unfolding tag_of
+  wrote_tag c v y hc hv e = fun_ext (λ a. fun_ext (λ b. here a b (cases_two a c b v)))
+    where
+      here : (a b : ℕ) → ((a ≡ c) × (b ≡ v)) ⊎ (((eqb a c && eqb b v) ≡ false) × ((a ≡ c) × (b ≡ v) → ⊥)) → tag_of (set r (c * 1024 + v) x) a b ≡ cond (eqb a c && eqb b v) y (tag_of r a b)
+      here a b (inl q) = rw (both_eq a c b v q.0 q.1, q.0, q.1, lt-ltb c 32 hc, lt-ltb v 1024 hv, get_or-set_same r (c * 1024 + v) x 0 (omega arith)) e
+      here a b (inr q) =
+          rw q.0
+          (guarded (ltb a 32 && ltb b 1024) _ _ _
+          (λ t. let s = below2 a 32 b 1024 t in ap tag_in (kept r _ x n (a * 1024 + b) (λ z. q.1 (omega (arith, s.0, s.1, z), omega (arith, s.0, s.1, z))))))
+
+  -- what a place shows is written again, with a tag
+  pub wrote_shown : (c v y : ℕ) → c < 32 → v < 1024 → x ≡ get_or r (c * 1024 + v) 0 % 131072 + 131072 * y → view_of n (set r (c * 1024 + v) x) ≡ view_of n r
+  wrote_shown c v y hc hv e =
+      wrote_place c v (place_of r c v) hc hv (again (get_or r (c * 1024 + v) 0) e ∙ read_place r c v hc hv) ∙ same_place c v (view_of n r) (place_of r c v) refl
+    where
+      again : (w : ℕ) → x ≡ w % 131072 + 131072 * y → place_from (shown_in x) ≡ place_from (shown_in w)
+      again w q = let z : shown_in x ≡ shown_in w = omega arith in rw z
 
   pub wrote_low : (d i y : ℕ) → d < 32 → i < 512 → number_from x ≡ y → view_of n (set r (32768 + d * 512 + i) x) ≡ with_low d i y (view_of n r)
   unfolding low_of
@@ -175,8 +217,11 @@ module _ (r : List ℕ) (n x : ℕ) (long : 65536 ≤ length r) where
 
 -- The same where a word's number is given by an equation, as `layout` gives it.
 module _ (r : List ℕ) (at : ℕ) where
-  pub read_place_at : (c v : ℕ) → at ≡ c * 1024 + v → c < 32 → v < 1024 → place_from (get_or r at 0) ≡ place_of r c v
-  read_place_at c v e a b = ap (λ (k : ℕ). place_from (get_or r k 0)) e ∙ read_place r c v a b
+  pub read_place_at : (c v : ℕ) → at ≡ c * 1024 + v → c < 32 → v < 1024 → place_from (shown_in (get_or r at 0)) ≡ place_of r c v
+  read_place_at c v e a b = ap (λ (k : ℕ). place_from (shown_in (get_or r k 0))) e ∙ read_place r c v a b
+
+  pub read_tag_at : (c v : ℕ) → at ≡ c * 1024 + v → c < 32 → v < 1024 → tag_in (get_or r at 0) ≡ tag_of r c v
+  read_tag_at c v e a b = ap (λ (k : ℕ). tag_in (get_or r k 0)) e ∙ read_tag r c v a b
 
   pub read_device_at : (d : ℕ) → at ≡ 49152 + 2 * d → d < 32 → device_from (get_or r at 0) ≡ device_of r d
   read_device_at d e a = ap (λ (k : ℕ). device_from (get_or r k 0)) e ∙ read_device r d a
@@ -194,8 +239,21 @@ module _ (r : List ℕ) (at : ℕ) where
   pub wrote_use_at : (f lo hi n : ℕ) (u : Use) → at ≡ 65536 + 2 * f → 65537 + 2 * f < length r → f < n → use_from lo hi ≡ u → view_of n (set (set r at lo) (at + 1) hi) ≡ with_use f u (view_of n r)
   wrote_use_at f lo hi n u e fits l w = ap (λ (k : ℕ). view_of n (set (set r k lo) (k + 1) hi)) e ∙ wrote_use r f lo hi fits n u l w
 
+  pub wrote_use_tags_at : (f lo hi : ℕ) → at ≡ 65536 + 2 * f → 65537 + 2 * f < length r → tag_of (set (set r at lo) (at + 1) hi) ≡ tag_of r
+  wrote_use_tags_at f lo hi e fits = ap (λ (k : ℕ). tag_of (set (set r k lo) (k + 1) hi)) e ∙ wrote_use_tags r f lo hi fits
+
+  -- a word past the places
+  pub kept_tags_at : (x : ℕ) → 32768 ≤ at → tag_of (set r at x) ≡ tag_of r
+  kept_tags_at x l = kept_tags r at x 0 l
+
   module _ (n x : ℕ) (long : 65536 ≤ length r) where
-    pub wrote_place_at : (c v : ℕ) (p : Place) → at ≡ c * 1024 + v → c < 32 → v < 1024 → place_from x ≡ p → view_of n (set r at x) ≡ with_place c v p (view_of n r)
+    pub wrote_tag_at : (c v y : ℕ) → at ≡ c * 1024 + v → c < 32 → v < 1024 → tag_in x ≡ y → tag_of (set r at x) ≡ with_tag c v y (tag_of r)
+    wrote_tag_at c v y e a b w = ap (λ (k : ℕ). tag_of (set r k x)) e ∙ wrote_tag r n x long c v y a b w
+
+    pub wrote_shown_at : (c v y : ℕ) → at ≡ c * 1024 + v → c < 32 → v < 1024 → x ≡ get_or r at 0 % 131072 + 131072 * y → view_of n (set r at x) ≡ view_of n r
+    wrote_shown_at c v y e a b w = ap (λ (k : ℕ). view_of n (set r k x)) e ∙ wrote_shown r n x long c v y a b (w ∙ ap (λ (k : ℕ). get_or r k 0 % 131072 + 131072 * y) e)
+
+    pub wrote_place_at : (c v : ℕ) (p : Place) → at ≡ c * 1024 + v → c < 32 → v < 1024 → place_from (shown_in x) ≡ p → view_of n (set r at x) ≡ with_place c v p (view_of n r)
     wrote_place_at c v p e a b w = ap (λ (k : ℕ). view_of n (set r k x)) e ∙ wrote_place r n x long c v p a b w
 
     pub wrote_low_at : (d i y : ℕ) → at ≡ 32768 + d * 512 + i → d < 32 → i < 512 → number_from x ≡ y → view_of n (set r at x) ≡ with_low d i y (view_of n r)
@@ -212,6 +270,18 @@ pub place_packed : (s : Place) → PlaceFits s → place_from (place_word s) ≡
 place_packed Nothing h = refl
 place_packed (Page f) h = search rules
 place_packed (Registers d) h = search rules
+
+-- it leaves no tag
+pub place_below : (s : Place) → PlaceFits s → place_word s < 131072
+place_below Nothing h = omega arith
+place_below (Page f) h = omega arith
+place_below (Registers d) h = omega arith
+
+pub place_shown : (s : Place) (w : ℕ) → PlaceFits s → w ≡ place_word s → place_from (shown_in w) ≡ s
+place_shown s w h e = let l = place_below s h in let z : shown_in w ≡ place_word s = omega arith in ap place_from z ∙ place_packed s h
+
+pub place_untagged : (s : Place) (w : ℕ) → PlaceFits s → w ≡ place_word s → tag_in w ≡ 0
+place_untagged s w h e = let l = place_below s h in omega arith
 
 pub device_packed : (s : Device) → DeviceFits s → device_from (device_word s) ≡ s
 device_packed Shut h = refl

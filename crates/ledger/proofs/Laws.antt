@@ -8,10 +8,10 @@ use Rattle.ledger.specs.declared.Use.TheVariants.{House, TableOf, Idle, PageOf}
 use Rattle.ledger.specs.declared.Place.TheVariants.{Nothing, Page, Registers}
 use Rattle.ledger.specs.declared.Device.TheVariants.{Shut, Opened, Closing}
 use Rattle.ledger.specs.Words.{UseFits, LoanFits, WhichFits, DeviceFits, use_from, loan_from, which_from, device_from, is_set}
-use Rattle.ledger.specs.Room.{use_of, place_of, device_of, low_of}
+use Rattle.ledger.specs.Room.{use_of, place_of, tag_of, device_of, low_of}
 use Rattle.ledger.specs.View.{View, view_of}
 use Rattle.ledger.specs.Uses.{is_shut}
-use Rattle.ledger.specs.Consistent.{LoanOk, FrameOk, PlaceOk, Coherent, Consistent}
+use Rattle.ledger.specs.Consistent.{LoanOk, FrameOk, PlaceOk, Coherent, Tagged, Consistent}
 use Rattle.ledger.proofs.Moves.{is_page_of}
 
 -- a frame of the room, in the view
@@ -66,8 +66,8 @@ low_within r d i h =
     ⊎_elim (λ e. let b = and_parts (ltb d 32) (ltb i 512) e in (ltb-true d 32 b.0, ltb-true i 512 b.1)) (λ e. absurd (h (rw e))) (cases_Bool (ltb d 32 && ltb i 512))
 
 -- the same view, so consistent too
-pub changed : (n : ℕ) (r t : List ℕ) (s : View) → Consistent n r → length t ≡ length r → view_of n t ≡ s → Coherent s → Consistent n t
-changed n r t s K l e h = record { long = omega (arith, K.long); some = K.some; few = K.few; coherent = subst Coherent (sym e) h }
+pub changed : (n : ℕ) (r t : List ℕ) (s : View) → Consistent n r → length t ≡ length r → view_of n t ≡ s → Coherent s → Tagged (tag_of t) s → Consistent n t
+changed n r t s K l e h g = record { long = omega (arith, K.long); some = K.some; few = K.few; coherent = subst Coherent (sym e) h; tags = subst (Tagged (tag_of t)) (sym e) g }
 
 module _ (s : View) (K : Coherent s) where
   -- a place gives its frame at once

@@ -1,18 +1,21 @@
 -- A page of a device is taken by a page that a place of the program that has the device shows.
-use Rattle.std.proofs.Common.{◌≤◌, Option, Some, None, MatchOption, ◌≡◌, ℕ, ◌<◌, Bool, true, List, Decides, sym, refl, ap, ◌∙◌, arith}
-use Rattle.std.proofs.lemmas.Bool.{false≢true}
+use Rattle.std.proofs.Common.{◌+◌, ◌-◌, ◌*◌, ◌/◌, ◌≤◌, slice_index, eqb, subst, ⊎_elim, Option, Some, None, MatchOption, ◌≡◌, ℕ, ◌<◌, Bool, true, List, Decides, sym, refl, ap, ◌∙◌, arith}
+use Rattle.std.proofs.lemmas.Bool.{and_parts, eqb-true, cases_lt, false≢true}
 use Rattle.ledger.specs.declared.Loan.{Loan}
+use Rattle.ledger.specs.declared.Loan.TheVariants.{Home, Lent, Leaving}
+use Rattle.ledger.specs.Words.{tag_at, tag_for}
 use Rattle.ledger.specs.declared.Use.{Use}
 use Rattle.ledger.specs.declared.Use.TheVariants.{House, TableOf, Idle, PageOf}
 use Rattle.ledger.specs.declared.Place.{Place}
 use Rattle.ledger.specs.declared.Place.TheVariants.{Nothing, Page, Registers}
-use Rattle.ledger.specs.Room.{use_of, place_of, device_of, low_of}
+use Rattle.ledger.specs.Room.{use_of, place_of, tag_of, device_of, low_of}
 use Rattle.ledger.specs.View.{view_of}
 use Rattle.ledger.specs.Uses.{is_at, loan_in, loan_shown, owner_is}
 use Rattle.ledger.specs.Consistent.{Consistent}
 use Rattle.ledger.proofs.Laws.{used_at, place_within, page_shown, page_loan, page_at}
 use Rattle.ledger.proofs.Coherence.{at_with, one_owner}
 use Rattle.ledger.proofs.Swept.{with_owner}
+use Rattle.ledger.proofs.PassedLoans.{tag_there}
 
 at_page : (d p : ℕ) (u : Use) → is_at d p (loan_in u) ≡ true → (a : ℕ) × (b : ℕ) × (l : Loan) × (u ≡ PageOf a b l)
 at_page d p House e = absurd (false≢true e)
@@ -52,3 +55,33 @@ pub first_of_range : (a b : ℕ) (Yes No : ℕ → Type 0) (r : Option ℕ) → 
     MatchOption r ((k : ℕ) → a ≤ k → k < b → No k) (λ i. (a ≤ i) × (i < b) × Yes i)
 first_of_range a b Yes No None h = h
 first_of_range a b Yes No (Some i) h = (h.0, h.1, h.2)
+
+-- what is at page p of d has its tag
+at_tag : (d p : ℕ) (l : Loan) → is_at d p l ≡ true → tag_for l ≡ tag_at d p
+at_tag d p Home e = absurd (false≢true e)
+at_tag d p (Lent m) e = let h = and_parts (eqb d m.device) (eqb p m.page) e in let a = eqb-true d m.device h.0 in let b = eqb-true p m.page h.1 in omega (arith, a, b)
+at_tag d p (Leaving m) e = let h = and_parts (eqb d m.device) (eqb p m.page) e in let a = eqb-true d m.device h.0 in let b = eqb-true p m.page h.1 in omega (arith, a, b)
+
+module _ (n : ℕ) (r : List ℕ) (K : Consistent n r) (c d p : ℕ) (program : c < 32) where
+  taken_tag : (u : ℕ) → is_at d p (loan_shown (use_of r) (place_of r c u)) ≡ true → tag_of r c u ≡ tag_at d p
+  taken_tag u e = K.tags c u ∙ go (place_of r c u) refl e
+    where
+      go : (x : Place) → place_of r c u ≡ x → is_at d p (loan_shown (use_of r) x) ≡ true → tag_for (loan_shown (view_of n r).used x) ≡ tag_at d p
+      go Nothing q h = absurd (false≢true h)
+      go (Page f) q h = ap (λ (x : Use). tag_for (loan_in x)) (used_at n r f (page_at n r K c u f q).0) ∙ at_tag d p (loan_in (use_of r f)) h
+      go (Registers b) q h = absurd (false≢true h)
+
+  -- 64 places whose words, one over the other, are too small for the tag of page p of d
+  pub none_among : (first at seen : ℕ) → at ≡ c * 1024 + first → first + 64 ≤ 1024 → ((k : ℕ) → k < 64 → slice_index r (at + k) ≤ seen) → seen / 131072 < tag_at d p → (u : ℕ) → first ≤ u → u < first + 64 → is_at d p (loan_shown (use_of r) (place_of r c u)) ≡ true → ⊥
+  none_among first at seen e within most few u l m h =
+      let there : at + (u - first) ≡ c * 1024 + u = omega (arith, e) in
+      let word : slice_index r (c * 1024 + u) ≤ seen = subst (λ (i : ℕ). slice_index r i ≤ seen) there (most (u - first) (omega arith)) in
+      let tag = sym (tag_there r c u program (omega arith)) ∙ taken_tag u h in
+      omega (arith, word, tag, few)
+
+-- what was decided of the numbers below n is decided of those below m, if it is true of none from n on
+pub decided_on : (b : Bool) (Q : ℕ → Type 0) (n m : ℕ) → n ≤ m → Decides b ((u : ℕ) × (u < n) × Q u) → ((u : ℕ) → n ≤ u → u < m → Q u → ⊥) → Decides b ((u : ℕ) × (u < m) × Q u)
+decided_on b Q n m l h none = (
+  λ e. let w = h.0 e in (w.0, omega (arith, w.1), w.2),
+  λ w. ⊎_elim (λ (lt : w.0 < n). h.1 (w.0, lt, w.2)) (λ (ge : n ≤ w.0). absurd (none w.0 ge w.1 w.2)) (cases_lt w.0 n),
+)

@@ -9,8 +9,10 @@ use Rattle.ledger.specs.declared.Place.{Place}
 use Rattle.ledger.specs.declared.Place.TheVariants.{Nothing, Page, Registers}
 use Rattle.ledger.specs.declared.Device.{Device}
 use Rattle.ledger.specs.declared.Device.TheVariants.{Shut, Opened, Closing}
+use Rattle.ledger.specs.Words.{tag_for}
+use Rattle.ledger.specs.Room.{tag_of}
 use Rattle.ledger.specs.View.{View, view_of}
-use Rattle.ledger.specs.Uses.{is_page, loan_in, is_at, is_shut, owner_is}
+use Rattle.ledger.specs.Uses.{is_page, loan_in, loan_shown, is_at, is_shut, owner_is}
 
 -- The loan of a page of program c: what is lent is lent to a device that c has open, what is leaving leaves one that c has, at a
 -- page whose slot has a lower table.
@@ -48,9 +50,14 @@ pub record Coherent (s : View) : Type 0 where
   -- at each page of a device there is one frame at most, those that are leaving counted
   pub once : (f g d p : ℕ) → is_at d p (loan_in (s.used f)) ≡ true → is_at d p (loan_in (s.used g)) ≡ true → f ≡ g
 
+-- each place's tag is that of the page that it shows
+abbrev pub Tagged : (ℕ → ℕ → ℕ) → View → Type 0
+Tagged t s = (c v : ℕ) → t c v ≡ tag_for (loan_shown s.used (s.place c v))
+
 -- room r, for n frames
 pub record Consistent (n : ℕ) (r : List ℕ) : Type 0 where
   pub long : 65536 + 2 * n ≤ length r
   pub some : 0 < n
   pub few : n ≤ 65536
   pub coherent : Coherent (view_of n r)
+  pub tags : Tagged (tag_of r) (view_of n r)

@@ -25,6 +25,10 @@ abbrev pub with_place : ℕ → ℕ → Place → View → View
 with_place c v p s =
     record { used = s.used; place = λ a b. cond (a == c && b == v) p (s.place a b); device = s.device; top = s.top; low = s.low }
 
+-- as `with_place`, for the tags, which are no part of a view
+abbrev pub with_tag : ℕ → ℕ → ℕ → (ℕ → ℕ → ℕ) → ℕ → ℕ → ℕ
+with_tag c v x t a b = cond (a == c && b == v) x (t a b)
+
 abbrev pub with_device : ℕ → Device → View → View
 with_device d x s = record { used = s.used; place = s.place; device = λ e. cond (e == d) x (s.device e); top = s.top; low = s.low }
 

@@ -85,6 +85,26 @@ UseFits (PageOf c v l) = (c < 32) × (v < 1024) × LoanFits l
 abbrev pub Canonical : ℕ → ℕ → Type 0
 Canonical low high = (low_word (use_from low high) ≡ low) × (high_word (use_from low high) ≡ high)
 
+-- A place's word: its lower 17 bits are what the place shows, and above them stands its tag. That is where the page that it shows is
+-- lent or leaving: 0 at home, else 1 plus the page plus 262,144 times the device.
+abbrev pub shown_in : ℕ → ℕ
+shown_in x = x % 131072
+
+abbrev pub tag_in : ℕ → ℕ
+tag_in x = x / 131072
+
+-- 1 plus the device that a word's tag names, 0 if there is no tag
+abbrev pub tag_device : ℕ → ℕ
+tag_device x = (tag_in x + 262143) / 262144
+
+abbrev pub tag_at : (d p : ℕ) → ℕ
+tag_at d p = 1 + p + 262144 * d
+
+abbrev pub tag_for : Loan → ℕ
+tag_for Home = 0
+tag_for (Lent m) = tag_at m.device m.page
+tag_for (Leaving m) = tag_at m.device m.page
+
 -- What a place shows: 0 nothing; up to 65,536 a frame plus 1; beyond that a device's registers.
 abbrev pub place_word : Place → ℕ
 place_word Nothing = 0

@@ -10,8 +10,10 @@ ghost use Rattle.ledger.specs.Uses.{is_shut, is_with, owner_is, loan_in};
 ghost use Rattle.ledger.specs.Changes.{closing_for, shut_device, without_lower, without_lowers};
 ghost use Rattle.ledger.specs.Rooms.{says, Becomes};
 
+use crate::blocks::low_bits;
 use crate::devices::{set_device, set_top, top_at};
 use crate::frames::set_use;
+use crate::layout::slot_word;
 use crate::slots::set_low;
 use crate::{Device, Room, Slot, Use};
 
@@ -42,14 +44,19 @@ impl Room<'_> {
         self.drop_upper(d);
     }
 
-    // The lower tables of d, to which nothing is lent, become idle.
+    // The lower tables of d, to which nothing is lent, become idle. Slots without tables are passed over, 64 at a time.
     fn drop_lowers(&mut self, d: u32)
         requires device { d < 32 }
         requires free { (g : ℕ) → is_with d (loan_in ((says self.old).used g)) ≡ false }
         ensures { Becomes self.old (without_lowers d (says self.old)) self.new }
     {
-        for index in 0..512 {
-            self.drop_lower(Slot { device: d, index });
+        for block in 0..8 {
+            let first = 64 * block;
+            if low_bits(self.words(), slot_word(d, first)) > 0 {
+                for index in first..first + 64 {
+                    self.drop_lower(Slot { device: d, index });
+                }
+            }
         }
     }
 

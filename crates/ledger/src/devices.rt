@@ -2,7 +2,7 @@
 // a Room asks that they are consistent, and between two writes they need not be.
 ghost use Rattle.std.specs.Prelude.{◌≡◌, ℕ, ◌<◌, ◌≤◌, length};
 ghost use Rattle.ledger.specs.Words.{DeviceFits, device_from, device_word};
-ghost use Rattle.ledger.specs.Room.{device_of, top_of};
+ghost use Rattle.ledger.specs.Room.{device_of, top_of, tag_of};
 ghost use Rattle.ledger.specs.View.{view_of, with_device, with_top};
 
 use crate::Device;
@@ -21,7 +21,8 @@ pub fn set_device(words: &mut [u64], d: u32, state: Device)
     requires long { 65536 ≤ length words.old }
     requires device { d < 32 }
     requires fits { DeviceFits state }
-    ensures { (n : ℕ) → view_of n words.new ≡ with_device d state (view_of n words.old) }
+    ensures view { (n : ℕ) → view_of n words.new ≡ with_device d state (view_of n words.old) }
+    ensures tags { tag_of words.new ≡ tag_of words.old }
 {
     words[device_word(d)] = u64::from(state);
 }
@@ -41,7 +42,8 @@ pub fn set_top(words: &mut [u64], d: u32, f: u32)
     requires long { 65536 ≤ length words.old }
     requires device { d < 32 }
     requires frame { f < 131072 }
-    ensures { (n : ℕ) → view_of n words.new ≡ with_top d f (view_of n words.old) }
+    ensures view { (n : ℕ) → view_of n words.new ≡ with_top d f (view_of n words.old) }
+    ensures tags { tag_of words.new ≡ tag_of words.old }
 {
     words[device_word(d) + 1] = f as u64;
 }

@@ -2,7 +2,7 @@
 // a Room asks that they are consistent, and between two writes they need not be.
 ghost use Rattle.std.specs.Prelude.{◌≡◌, ℕ, ◌+◌, ◌*◌, ◌<◌, length};
 ghost use Rattle.ledger.specs.Words.{UseFits, use_from};
-ghost use Rattle.ledger.specs.Room.{use_of};
+ghost use Rattle.ledger.specs.Room.{use_of, tag_of};
 ghost use Rattle.ledger.specs.View.{view_of, with_use};
 
 use crate::Use;
@@ -29,7 +29,8 @@ fn words_at(words: &[u64], f: u32) -> (u64, u64)
 pub fn set_use(words: &mut [u64], f: u32, used: Use)
     requires long { 65537 + 2 * f < length words.old }
     requires fits { UseFits used }
-    ensures { (n : ℕ) → f < n → view_of n words.new ≡ with_use f used (view_of n words.old) }
+    ensures view { (n : ℕ) → f < n → view_of n words.new ≡ with_use f used (view_of n words.old) }
+    ensures tags { tag_of words.new ≡ tag_of words.old }
 {
     let at = frame_word(f);
     let record = Record::pack(used);

@@ -2,6 +2,7 @@
 #![tactic(auto)]
 
 pub mod address;
+pub mod blocks;
 pub mod closing;
 pub mod devices;
 pub mod frames;

@@ -13,7 +13,7 @@ ghost use Rattle.ledger.specs.Changes.{Settles, new_page, freed_page, given_page
 ghost use Rattle.ledger.specs.Rooms.{says, Becomes};
 
 use crate::frames::set_use;
-use crate::places::set_place;
+use crate::places::{set_place, set_tag};
 use crate::{Address, Loan, Place, Room, Use};
 
 impl Room<'_> {
@@ -65,7 +65,9 @@ impl Room<'_> {
         requires alone { (g d p : ℕ) → g < self.old.frames → is_at d p loan ≡ true → is_at d p (loan_in (use_of self.old.words.now g)) ≡ true → g ≡ f }
         ensures { Becomes self.old (with_loan at.who at.v f loan (says self.old)) self.new }
     {
-        set_use(self.words, f, page_of(at, loan));
+        let words = &mut *self.words;
+        set_use(words, f, page_of(at, loan));
+        set_tag(words, at, loan);
     }
 }
 

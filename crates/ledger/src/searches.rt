@@ -5,9 +5,11 @@ ghost use Rattle.ledger.specs.Room.{use_of, place_of, device_of};
 ghost use Rattle.ledger.specs.Uses.{is_at, loan_in, loan_shown, held_by_other};
 ghost use Rattle.ledger.specs.Consistent.{Consistent};
 
+use crate::blocks::bits;
 use crate::devices::device_at;
 use crate::frames::use_at;
-use crate::places::place_at;
+use crate::layout::place_word;
+use crate::places::{TAG, loan_tag, place_at, tag_at};
 use crate::{Address, Device, Loan, Place, Room, Use};
 
 // The first idle frame from `from` to below `to`; None only where there is none.
@@ -44,22 +46,32 @@ pub fn page_taken(words: &[u64], frames: u32, d: u32, p: u32) -> bool
     }
 }
 
-// Whether a page that a place of `who` shows is lent to d or leaving it at page p.
+// Whether a page that a place of `who` shows is lent to d or leaving it at page p. The places' tags tell, which lie in a row.
 fn lent_by(words: &[u64], frames: u32, who: u32, d: u32, p: u32) -> bool
     requires consistent { Consistent frames words.now }
     requires program { who < 32 }
     ensures { Decides result ((v : ℕ) × (v < 1024) × (is_at d p (loan_shown (use_of words.now) (place_of words.now who v)) ≡ true)) }
 {
-    // A loop: `any` was tried, and its closure needs clauses of its own to say that `v` is a place.
-    for v in 0..1024 {
-        if is_at(loan_shown(words, frames, Address { who, v }), d, p) {
-            return true;
+    // No device has such a page.
+    if p >= 262144 {
+        return false;
+    }
+    let tag = loan_tag(d, p);
+    let mut taken = false;
+    for block in 0..16 {
+        let first = 64 * block;
+        if bits(words, place_word(who, first)) / TAG >= tag {
+            // With no early return, so that several words can be compared at a time.
+            for v in first..first + 64 {
+                taken |= tag_at(words, Address { who, v }) == tag;
+            }
         }
     }
-    false
+    taken
 }
 
-fn loan_shown(words: &[u64], frames: u32, at: Address) -> Loan
+// The loan of the page that a place shows, by the frame's record. Tests hold the tags against it.
+pub(crate) fn loan_shown(words: &[u64], frames: u32, at: Address) -> Loan
     requires { Consistent frames words.now }
     ensures { result ≡ loan_shown (use_of words.now) (place_of words.now at.who at.v) }
 {
@@ -89,7 +101,7 @@ fn loan_in(used: Use) -> Loan
 }
 
 // Lent to d, or leaving it, at page p.
-fn is_at(loan: Loan, d: u32, p: u32) -> bool
+pub(crate) fn is_at(loan: Loan, d: u32, p: u32) -> bool
     ensures { result ≡ is_at d p loan }
 {
     match loan {

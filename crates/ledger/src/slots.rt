@@ -2,7 +2,7 @@
 // a Room asks that they are consistent, and between two writes they need not be.
 ghost use Rattle.std.specs.Prelude.{◌≡◌, ℕ, ◌<◌, ◌≤◌, length};
 ghost use Rattle.ledger.specs.Words.{noted, note_of, number_from};
-ghost use Rattle.ledger.specs.Room.{low_of};
+ghost use Rattle.ledger.specs.Room.{low_of, tag_of};
 ghost use Rattle.ledger.specs.View.{view_of, with_low};
 
 use crate::Slot;
@@ -19,7 +19,8 @@ pub fn low_at(words: &[u64], at: Slot) -> Option<u32>
 pub fn set_low(words: &mut [u64], at: Slot, table: Option<u32>)
     requires long { 65536 ≤ length words.old }
     requires fits { note_of table < 131072 }
-    ensures { (n : ℕ) → view_of n words.new ≡ with_low at.device at.index (note_of table) (view_of n words.old) }
+    ensures view { (n : ℕ) → view_of n words.new ≡ with_low at.device at.index (note_of table) (view_of n words.old) }
+    ensures tags { tag_of words.new ≡ tag_of words.old }
 {
     words[slot_word(at.device, at.index)] = word(table);
 }

@@ -5,6 +5,8 @@ ghost use Rattle.ledger.specs.Uses.{owner_is, home_from, leaving_from, map_loan,
 ghost use Rattle.ledger.specs.Changes.{with_uses};
 ghost use Rattle.ledger.specs.Rooms.{says, Becomes};
 
+use crate::blocks::any_tag_of;
+use crate::layout::place_word;
 use crate::{Address, Loan, Place, Room, Use};
 
 impl Room<'_> {
@@ -26,15 +28,21 @@ impl Room<'_> {
         self.sweep_loans(who, d, true);
     }
 
-    // Every loan to d is of the program that has d, so its places are all that there are to look at. `home` says which of two: a
+    // Every loan to d is of the program that has d, so its places are all that there are to look at; where 64 have no tag of d, they are
+    // passed over at once. `home` says which of two: a
     // closure in its place would need, in each contract here, what it makes of a loan and that the owner may have that.
     fn sweep_loans(&mut self, who: u32, d: u32, home: bool)
         requires program { who < 32 }
         requires owner { owner_is who (device_of self.old.words.now d) ≡ true }
         ensures { Becomes self.old (with_uses (map_loan (swept_loan home d)) (says self.old)) self.new }
     {
-        for v in 0..1024 {
-            self.sweep_place(Address { who, v }, d, home);
+        for block in 0..16 {
+            let first = 64 * block;
+            if any_tag_of(self.words(), place_word(who, first), d) {
+                for v in first..first + 64 {
+                    self.sweep_place(Address { who, v }, d, home);
+                }
+            }
         }
     }
 

@@ -4,7 +4,7 @@ ghost use Rattle.std.specs.Prelude.{◌+◌, ◌*◌, ◌<◌, ◌≤◌, length
 
 use crate::frames::use_at;
 use crate::record::{Record, read};
-use crate::searches::find_idle;
+use crate::searches::{find_idle, is_at, loan_shown};
 use crate::{Address, Device, Loan, Mapping, Place, Room, Slot, Use, Which};
 
 // Whether a use is packed into these words, and read and unpacked from them.
@@ -271,6 +271,25 @@ fn has_loan(room: &Room, loan: Loan) -> bool {
             }
 }
 
+// Whether a page of program 3 is lent to device d or leaving it at page p, by the frames' records.
+fn recorded(room: &Room, d: u32, p: u32) -> bool {
+    for v in 0..1024 {
+        if is_at(
+            loan_shown(room.words(), room.frames(), Address { who: 3, v }),
+            d,
+            p,
+        ) {
+            return true;
+        }
+    }
+    false
+}
+
+// Tags and records agree on whether page 519 of device 2 is taken; page 518 is not.
+fn taken(room: &Room, says: bool) -> bool {
+    room.page_taken(2, 519) == says && recorded(room, 2, 519) == says && !room.page_taken(2, 518)
+}
+
 // A page is lent; it can't be lent there again until it has come home.
 fn lent_once(words: &mut [u64]) -> bool
     requires { 65664 ≤ length words.old }
@@ -278,6 +297,7 @@ fn lent_once(words: &mut [u64]) -> bool
     let mut room = Room::set_up(words, 64);
     let given = get(&mut room, PAGE).is_some() && ready(&mut room).is_some() && lent(&mut room);
     if !given
+        || !taken(&room, true)
         || lent(&mut room)
         || !has_loan(
             &room,
@@ -299,14 +319,16 @@ fn lent_once(words: &mut [u64]) -> bool
                 writes: true,
             }),
         );
-    if !left || lent(&mut room) {
+    if !left || !taken(&room, true) || lent(&mut room) {
         return false;
     }
-    swept(&mut room, true) && has_loan(&room, Loan::Home) && lent(&mut room)
+    swept(&mut room, true) && has_loan(&room, Loan::Home) && taken(&room, false) && lent(&mut room)
 }
 
 #[test]
 fn loans_come_and_go(rt: HostRuntime) {
     let mut room = [0; 65664];
     assert!(rt; lent_once(&mut room));
+    // Program 3's place 9 shows frame 1, with the tag of page 519 of device 2.
+    assert!(rt; room[3081] == 68787634178);
 }

@@ -44,6 +44,7 @@ impl<'a> Log<'a> {
     }
 
     // Notes one more.
+    #[inline(always)]
     pub fn push(&mut self, event: Event)
         requires { self.old.rows.count < length self.old.rows.all.now }
         ensures list { events_of self.new ≡ event ∷ events_of self.old }

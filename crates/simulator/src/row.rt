@@ -27,6 +27,7 @@ pub struct Row {
 impl From<Event> for Row {
     ghost from_gives = { λ event row. event_in row ≡ event };
 
+    #[inline(always)]
     fn from(event: Event) -> Row {
         match event {
             Event::Asked { who, call } => of_call(0, who, call, 0),
@@ -167,6 +168,7 @@ impl From<Row> for Event {
 }
 
 // A row with nothing but a kind and a number.
+#[inline(always)]
 fn blank(kind: u32, who: u32) -> Row
     ensures kind { result.kind ≡ kind }
     ensures who { result.who ≡ who }
@@ -185,6 +187,7 @@ fn blank(kind: u32, who: u32) -> Row
 }
 
 // A row of a call, with the reason why it is refused, if it is.
+#[inline(always)]
 fn of_call(kind: u32, who: u32, call: Call, reason: u32) -> Row
     ensures kind { result.kind ≡ kind }
     ensures who { result.who ≡ who }

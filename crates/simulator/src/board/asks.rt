@@ -26,6 +26,7 @@ const CALL: usize = ASKINGS as usize + 2;
 
 impl<'a> Board<'a> {
     // A program asks for something, for which there is room.
+    #[inline(always)]
     fn ask(&mut self, who: u32, request: Request) -> Result<Reply, Refused>
         requires { self.old.log.rows.count + 2050 ≤ length self.old.log.rows.all.now }
         ensures { Replied (Calls who request) (parts_of self.old) (reply_of result) (parts_of self.new) }
@@ -38,6 +39,7 @@ impl<'a> Board<'a> {
     }
 
     // It is told the answer.
+    #[inline(always)]
     pub fn tell(&mut self, who: u32, c: Call, a: Answer)
         requires { Explained can (start_of (hw_of (parts_of self.old))) (Told who c a ∷ seen_of (parts_of self.old)) }
         ensures hw { hw_of (parts_of self.new) ≡ hw_of (parts_of self.old) }
@@ -67,6 +69,7 @@ impl<'a> Board<'a> {
     }
 
     // What becomes of a line, while there is room for a call.
+    #[inline(always)]
     fn reply(&mut self, line: Line) -> Result<Reply, Refused>
         requires { self.old.log.rows.count + 2050 ≤ length self.old.log.rows.all.now }
         ensures { Replied line (parts_of self.old) (reply_of result) (parts_of self.new) }
@@ -92,6 +95,7 @@ impl<'a> Board<'a> {
     }
 
     // What becomes of a line. Nothing any more once there is no room for a call.
+    #[inline(always)]
     pub fn answer(&mut self, line: Line) -> Result<Reply, NoRoom>
         ensures { Answered line (parts_of self.old) result (parts_of self.new) }
     {

@@ -10,6 +10,7 @@ use crate::ranges::PAGES;
 
 impl<'a> Board<'a> {
     // With a seed up to three tricks, without one none.
+    #[inline(always)]
     pub fn play(&mut self)
         ensures goes { Goes (parts_of self.old) (parts_of self.new) }
         ensures quiet { self.old.dice ≡ None → parts_of self.new ≡ parts_of self.old }
@@ -24,6 +25,7 @@ impl<'a> Board<'a> {
     }
 
     // With a seed one trick, or none where what it needs is not there.
+    #[inline(never)]
     pub fn trick(&mut self)
         ensures { Goes (parts_of self.old) (parts_of self.new) }
     {

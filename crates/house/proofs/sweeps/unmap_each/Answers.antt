@@ -1,14 +1,18 @@
 use Rattle.ledger.proofs.Becoming.{becomes_then, becomes_as}
-use Rattle.std.proofs.Common.{◌≡◌, ℕ, ◌+◌, sym, ap, ◌∙◌, subst, arith, refl}
+use Rattle.std.proofs.Common.{◌≡◌, ℕ, ◌+◌, ◌*◌, sym, ap, ◌∙◌, subst, arith, refl}
 use Rattle.ledger.specs.Room.{place_of}
 use Rattle.ledger.specs.View.{View, view_of}
+use Rattle.ledger.specs.declared.room.Room.{Room}
+use Rattle.ledger.specs.Rooms.{Becomes}
 use Rattle.house.specs.Unmapping.{Hid}
+use Rattle.house.proofs.PassedOver.{passed_over}
 use Rattle.house.proofs.Unmapped.{hid_none, hid_skip, hid_more, left_for}
 use Rattle.house.proofs.sweeps.unmap_each.Given as given
 use Rattle.house.proofs.sweeps.unmap_each.Goals as goal
+use Rattle.house.proofs.sweeps.unmap_each.Goals.{then-present+else-loop-v-test, else-present}
 
-pub loop-v-init : goal.loop-v-init
-loop-v-init g c = ((refl, refl, (g.met.S.Sweep.laws c.args.s).none _ _), hid_none _ _ _ _)
+pub loop-block-init : goal.loop-block-init
+loop-block-init g c = ((refl, refl, (g.met.S.Sweep.laws c.args.s).none _ _), hid_none _ _ _ _)
 
 pub hide-requires : goal.hide-requires
 hide-requires g c =
@@ -33,10 +37,23 @@ loop-v-preserved g c =
       ],
     )
 
+pub loop-block-preserved : goal.loop-block-preserved
+loop-block-preserved g c =
+    let P : g.row.M.Denot → Room → ℕ → Type 0 = λ w room k. Becomes c.args.room.now (g.S.Sweep.below c.args.s c.args.who k (view_of c.args.room.now.frames c.args.room.now.words.now)) room ×
+    Hid c.args.who (λ (v : ℕ). g.S.Sweep.shows c.args.s (place_of c.args.room.now.words.now c.args.who v)) (g.M.Machine.hw c.args.w.now) (g.M.Machine.seen c.args.w.now) k (g.M.Machine.hw w) (g.M.Machine.seen w) in
+    elim c.if-present.branch [
+      | then-present+else-loop-v-test w ↦
+          let last : w.loop-v.v ≡ 64 * (c.loop-block.block + 1) = omega arith in
+          subst (λ x. P x c.if-present.room (64 * (c.loop-block.block + 1))) (sym w.w-is) (subst (λ (x : Room). P w.loop-v.w x (64 * (c.loop-block.block + 1))) (sym w.room-is) (subst (P w.loop-v.w w.loop-v.room) last w.loop-v.invariant))
+      | else-present w ↦
+          let last : 64 * c.loop-block.block + 64 ≡ 64 * (c.loop-block.block + 1) = omega arith in
+          subst (λ x. P x c.if-present.room (64 * (c.loop-block.block + 1))) (sym w.w-is) (subst (λ (x : Room). P c.loop-block.w x (64 * (c.loop-block.block + 1))) (sym w.room-is) (subst (P c.loop-block.w c.loop-block.room) last (passed_over (g.met.S.Sweep.laws c.args.s) c.args.room.now c.loop-block.room c.args.who _ _ _ _ (64 * c.loop-block.block) (c.present.ensures w.if-present.false) c.loop-block.invariant)))
+    ]
+
 pub returns : goal.returns
 returns g c =
-    let last : c.loop-v.v ≡ 1024 = omega arith in
+    let last : 64 * c.loop-block.block ≡ 1024 = omega arith in
     record {
-      hid = subst (λ (k : ℕ). Hid c.args.who (λ (v : ℕ). g.S.Sweep.shows c.args.s (place_of c.args.room.now.words.now c.args.who v)) (g.M.Machine.hw c.args.w.now) (g.M.Machine.seen c.args.w.now) k (g.M.Machine.hw c.loop-v.w) (g.M.Machine.seen c.loop-v.w)) last c.loop-v.invariant.1;
-      room = becomes_as c.args.room.now c.loop-v.room _ _ (ap (λ (k : ℕ). g.S.Sweep.below c.args.s c.args.who k (view_of c.args.room.now.frames c.args.room.now.words.now)) last) c.loop-v.invariant.0;
+      hid = subst (λ (k : ℕ). Hid c.args.who (λ (v : ℕ). g.S.Sweep.shows c.args.s (place_of c.args.room.now.words.now c.args.who v)) (g.M.Machine.hw c.args.w.now) (g.M.Machine.seen c.args.w.now) k (g.M.Machine.hw c.loop-block.w) (g.M.Machine.seen c.loop-block.w)) last c.loop-block.invariant.1;
+      room = becomes_as c.args.room.now c.loop-block.room _ _ (ap (λ (k : ℕ). g.S.Sweep.below c.args.s c.args.who k (view_of c.args.room.now.frames c.args.room.now.words.now)) last) c.loop-block.invariant.0;
     }

@@ -1,5 +1,5 @@
 use Rattle.std.proofs.Common.{◌∙◌, inl, inr, arith, refl}
-use Rattle.ledger.proofs.Cleared.{cleared_view, cleared_coherent}
+use Rattle.ledger.proofs.Cleared.{cleared_view, cleared_coherent, cleared_tags}
 use Rattle.ledger.proofs.room.Room.set_up.Goals as goal
 
 pub returns : goal.returns
@@ -19,5 +19,6 @@ invariant_of-result c =
         some = c.requires.some;
         few = c.requires.few;
         coherent = cleared_coherent c.args.frames c.clear_frames.new.words c.requires.some c.clear_frames.ensures.idle (λ i l. c.clear_frames.ensures.others i (inl (omega arith)) ∙ c.clear_tables.ensures.cleared i l);
+        tags = cleared_tags c.args.frames c.clear_frames.new.words c.requires.some c.clear_frames.ensures.idle (λ i l. c.clear_frames.ensures.others i (inl (omega arith)) ∙ c.clear_tables.ensures.cleared i l);
       };
     }
