@@ -21,6 +21,8 @@ pub struct Case {
     pub calls: usize,
     /// What belongs to a round and is not measured: it is timed by itself, and taken off.
     pub besides: Vec<Line>,
+    /// A round cannot be repeated, since nothing undoes it.
+    pub once: bool,
 }
 
 /// Device d has driver d, and is alone in its group.
@@ -89,13 +91,14 @@ pub fn cases(frames: u32, fill: Fill) -> Vec<Case> {
         round: round.to_vec(),
         calls,
         besides: Vec::new(),
+        once: false,
     };
     let regs: Vec<Line> = (0..512).map(|k| regs(OTHER, OTHER, k)).collect();
     let mut registers = case("regs", &[open(OTHER, OTHER)], &[&regs[..], &[close(OTHER, OTHER), open(OTHER, OTHER)]].concat(), 512);
     registers.besides = vec![close(OTHER, OTHER), open(OTHER, OTHER)];
     let mut put_off = case("recall, later", &[lend(WHO, 0, WHO, 0)], &[no(1), recall(WHO, 0)], 1);
     put_off.besides = vec![no(1)];
-    vec![
+    let mut cases = vec![
         case("get, free", &[], &[get(WHO, FREE), free(WHO, FREE)], 2),
         case("give", &[], &[give(WHO, 0, OTHER, FREE), give(OTHER, FREE, WHO, 0)], 2),
         registers,
@@ -106,5 +109,42 @@ pub fn cases(frames: u32, fill: Fill) -> Vec<Case> {
         case("get, open, lend, end", &[], &[get(OTHER, 5), open(OTHER, OTHER), lend(OTHER, 5, OTHER, 7), end(OTHER)], 4),
         case("refused: get", &[], &[get(WHO, 0)], 1),
         case("no call: load", &[], &[load(WHO, 0)], 1),
+    ];
+    if fill == Fill::Few {
+        cases.extend(alone(frames, &setup));
+    }
+    cases
+}
+
+/// Calls of one kind without what undoes them, as many as there is room for.
+fn alone(frames: u32, setup: &[Line]) -> Vec<Case> {
+    let places = (PROGRAMS - 1) * (FREE - 1);
+    let count = (frames - 16).min(places);
+    let place = |k: u32| ((k / (FREE - 1) + OTHER) % PROGRAMS, 1 + k % (FREE - 1));
+    let gets: Vec<Line> = (0..count).map(|k| get(place(k).0, place(k).1)).collect();
+    let frees: Vec<Line> = (0..count).map(|k| free(place(k).0, place(k).1)).collect();
+    // Pages of one program, lent to its device behind one another.
+    let lent = count.min(WORDS - 1);
+    let lends: Vec<Line> = (0..lent).map(|k| lend(OTHER, 1 + k, OTHER, k)).collect();
+    let recalls: Vec<Line> = (0..lent).map(|k| recall(OTHER, 1 + k)).collect();
+    let devices = PROGRAMS.min(frames / 2) - 1;
+    let opens: Vec<Line> = (0..devices).map(|k| open(k + 1, k + 1)).filter(|line| *line != open(WHO, WHO)).collect();
+    let closes: Vec<Line> = (0..devices).map(|k| close(k + 1, k + 1)).filter(|line| *line != close(WHO, WHO)).collect();
+    let owned = [&gets[..], &[open(OTHER, OTHER), lend(OTHER, 1, OTHER, 0), recall(OTHER, 1)]].concat();
+    let case = |name, more: &[Line], round: &[Line]| Case {
+        name,
+        setup: [setup, more].concat(),
+        round: round.to_vec(),
+        calls: round.len(),
+        besides: Vec::new(),
+        once: true,
+    };
+    vec![
+        case("get alone", &[], &gets),
+        case("free alone", &gets, &frees),
+        case("lend alone", &owned, &lends),
+        case("recall alone", &[&owned[..], &lends[..]].concat(), &recalls),
+        case("open alone", &[], &opens),
+        case("close alone", &opens, &closes),
     ]
 }

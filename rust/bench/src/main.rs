@@ -31,6 +31,9 @@ fn nanoseconds(side: &mut dyn Side, case: &Case, rounds: usize, repeats: usize) 
 
 /// So many rounds that they take long enough, and that the log has room for them.
 fn rounds(side: &mut dyn Side, case: &Case) -> usize {
+    if case.once {
+        return 1;
+    }
     let room = (EVENTS - 2 * case.setup.len() - 4096) / (4 * case.round.len().max(1));
     let mut rounds = room.min(64);
     while rounds < room {
@@ -43,15 +46,19 @@ fn rounds(side: &mut dyn Side, case: &Case) -> usize {
     rounds
 }
 
+/// A case that cannot be repeated is short on a small machine: it is played often.
+fn repeats(case: &Case, frames: u32, repeats: usize) -> usize {
+    if case.once { (repeats * 64).min(repeats * 65_536 / frames as usize) } else { repeats }
+}
+
 /// Nothing is measured unless both keepers say the same, and none of the calls is refused but where that is what is measured.
 fn agree(proved: &mut Proved, unproved: &mut Unproved, case: &Case) -> f64 {
-    let once = script(case, &case.round, 1);
-    let twice = script(case, &case.round, 2);
+    let (none, once) = (script(case, &case.round, 0), script(case, &case.round, 1));
     let (said, asked) = unproved.outcomes(&once);
     assert_eq!(proved.outcomes(&once), said, "{}", case.name);
     let refused = said.iter().filter(|o| matches!(o, Outcome::No(_) | Outcome::Over)).count();
     assert_eq!(refused, usize::from(case.name.starts_with("refused")), "{}", case.name);
-    (unproved.outcomes(&twice).1 - asked) as f64 / case.calls as f64
+    (asked - unproved.outcomes(&none).1) as f64 / case.calls as f64
 }
 
 /// bench [REPEATS [FRAMES [CALLS]]]: how often each script is played, and on which machines and of which calls alone.
@@ -71,7 +78,7 @@ fn main() {
             for case in cases(frames, fill).into_iter().filter(|case| case.name.contains(&only_calls)) {
                 let asks = agree(&mut proved, &mut unproved, &case);
                 let rounds = rounds(&mut unproved, &case);
-                let cost = |side: &mut dyn Side| nanoseconds(side, &case, rounds, repeats);
+                let cost = |side: &mut dyn Side| nanoseconds(side, &case, rounds, self::repeats(&case, frames, repeats));
                 let (machine, plain, ours) = (cost(&mut alone), cost(&mut unproved), cost(&mut proved));
                 let fill = if fill == Fill::Few { "few" } else { "most" };
                 println!("| {frames} | {fill} | {} | {asks:.1} | {machine:.1} | {plain:.1} | {ours:.1} | {:.2} |", case.name, ours / plain);

@@ -4,23 +4,19 @@ use crate::build::has;
 use crate::plain::DEVICE_TABLE;
 use crate::reason::Reason;
 use crate::records::{Place, State};
+use crate::rows::Row;
 use crate::{Build, Fault, Plain};
 use machine::Machine;
 use protocol::{Answer, PROGRAMS};
 
 impl<B: Build> Plain<B> {
-    /// Hides each place of a program that shows what is `taken`, upwards.
+    /// Hides each place of a program that `is` holds of, upwards; each of those has some of the bits.
     #[inline]
-    fn hide_each(&mut self, m: &mut impl Machine, who: u32, taken: impl Fn(Place) -> bool) {
-        let mut from = 0;
-        while let Some(v) = self.tables.place_with(who, from, &taken) {
-            match self.tables.place(who, v).frame() {
-                Some(f) => self.tables.vacate(who, v, f),
-                None => self.tables.set_place(who, v, Place::NOTHING),
-            }
-            m.hide(who, v);
-            from = v + 1;
-        }
+    fn hide_each(&mut self, m: &mut impl Machine, row: &Row, some: u64, is: impl Fn(Place) -> bool) {
+        self.tables.each_place(row, some, is, |tables, v| {
+            tables.vacate(row.who, v);
+            m.hide(row.who, v);
+        });
     }
 
     /// Device d leaves frame 0.
@@ -33,11 +29,11 @@ impl<B: Build> Plain<B> {
 
     /// d is shut if it was forgotten, and else closing.
     #[inline]
-    fn settle_device(&mut self, who: u32, d: u32, forgotten: bool) {
+    fn settle_device(&mut self, row: &Row, d: u32, forgotten: bool) {
         if forgotten {
-            self.tables.shut(who, d);
+            self.tables.shut(row, d);
         } else {
-            self.tables.begin_closing(who, d);
+            self.tables.begin_closing(row, d);
         }
     }
 
@@ -46,35 +42,31 @@ impl<B: Build> Plain<B> {
         Reason::OutOfRange.unless(d < m.devices())?;
         Reason::NotYours.unless(self.tables.state(d).holder() == Some(who))?;
         self.cut(m, d);
+        let row = self.tables.row(who);
         if !has::<B>(Fault::RegistersStay) {
-            self.hide_each(m, who, |place| place == Place::registers(d));
+            self.hide_each(m, &row, Place::REGISTERS, |place| place.is_registers_of(d));
         }
         let forgotten = self.drain(m, d) || has::<B>(Fault::ClosedAfterNo);
-        self.settle_device(who, d, forgotten);
+        self.settle_device(&row, d, forgotten);
         Ok(if forgotten { Answer::Done } else { Answer::Later })
     }
 
-    /// Whether an end closes d for p.
+    /// Each device of a program leaves frame 0 and is asked once to be forgotten, upwards, also after a no; whether all were.
     #[inline]
-    fn closes(&self, p: u32, d: u32) -> bool {
-        match self.tables.state(d) {
-            State::Shut => false,
-            State::Open(who) => who == p,
-            State::Closing(who) => who == p && !has::<B>(Fault::EndSkipsClosing),
-        }
-    }
-
-    /// Each device of p leaves frame 0 and is asked once to be forgotten, upwards, also after a no; whether all were.
-    #[inline]
-    fn close_all(&mut self, m: &mut impl Machine, p: u32) -> bool {
+    fn close_all(&mut self, m: &mut impl Machine, row: &Row) -> bool {
+        let closes = |state: State| match state {
+            State::Closing(_) if has::<B>(Fault::EndSkipsClosing) => false,
+            _ => state.holder() == Some(row.who),
+        };
+        let mut left = self.tables.devices(closes);
         let mut all = true;
-        for d in 0..m.devices() {
-            if self.closes(p, d) {
-                self.cut(m, d);
-                let forgotten = self.drain(m, d);
-                self.settle_device(p, d, forgotten);
-                all &= forgotten;
-            }
+        while left != 0 {
+            let d = left.trailing_zeros();
+            left &= left - 1;
+            self.cut(m, d);
+            let forgotten = self.drain(m, d);
+            self.settle_device(row, d, forgotten);
+            all &= forgotten;
         }
         all
     }
@@ -83,14 +75,15 @@ impl<B: Build> Plain<B> {
     pub(crate) fn end(&mut self, m: &mut impl Machine, who: u32, p: u32) -> Result<Answer, Reason> {
         Reason::OutOfRange.unless(p < PROGRAMS)?;
         Reason::NotPermitted.unless(who == 0)?;
+        let row = self.tables.row(p);
         let stay = has::<B>(Fault::RegistersStay);
         if !stay {
-            self.hide_each(m, p, Place::is_registers);
+            self.hide_each(m, &row, Place::REGISTERS, Place::is_registers);
         }
-        if !self.close_all(m, p) && !has::<B>(Fault::EndedAfterNo) {
+        if !self.close_all(m, &row) && !has::<B>(Fault::EndedAfterNo) {
             return Ok(Answer::Later);
         }
-        self.hide_each(m, p, |place| (place != Place::NOTHING) & !(stay & place.is_registers()));
+        self.hide_each(m, &row, Place::SHOWN, |place| !place.is_nothing() & !(stay & place.is_registers()));
         Ok(Answer::Done)
     }
 }

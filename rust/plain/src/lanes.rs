@@ -1,28 +1,29 @@
-//! Searches of short words, several at once.
+//! Searches of words, several at once.
 
 /// So many are looked at at once, with one branch for all.
-const LANES: usize = 64;
+pub(crate) const LANES: usize = 64;
 
-/// Where the first is that `is` holds of.
-#[inline]
-pub(crate) fn position<T: Copy>(items: &[T], is: impl Fn(T) -> bool) -> Option<usize> {
-    let (lanes, rest) = items.as_chunks();
-    match lanes.iter().position(|some| holds(some, &is)) {
-        Some(k) => lanes[k].iter().position(|x| is(*x)).map(|i| k * LANES + i),
-        None => rest.iter().position(|x| is(*x)).map(|i| lanes.len() * LANES + i),
-    }
-}
+/// Words that are looked at at once.
+pub(crate) type Block = [u64; LANES];
 
-/// Those that `is` holds of, in their order, where they are few.
-#[inline]
-pub(crate) fn filter<T: Copy>(items: &[T], is: impl Fn(T) -> bool + Copy) -> impl Iterator<Item = T> {
-    let (lanes, rest) = items.as_chunks();
-    let some = lanes.iter().filter(move |some| holds(some, is)).flatten();
-    some.chain(rest).copied().filter(move |x| is(*x))
+/// The bits that some word of a block has.
+#[inline(always)]
+pub(crate) fn bits(block: &Block) -> u64 {
+    block.iter().fold(0, |bits, word| bits | word)
 }
 
 /// Whether it holds of some, without a branch for each.
 #[inline(always)]
-fn holds<T: Copy>(some: &[T; LANES], is: impl Fn(T) -> bool) -> bool {
+pub(crate) fn any<T: Copy, const N: usize>(some: &[T; N], is: impl Fn(T) -> bool) -> bool {
     some.iter().fold(false, |any, x| any | is(*x))
+}
+
+/// Where the first is that `is` holds of, among so many at once.
+#[inline]
+pub(crate) fn position<T: Copy, const N: usize>(items: &[T], is: impl Fn(T) -> bool) -> Option<usize> {
+    let (lanes, rest) = items.as_chunks::<N>();
+    match lanes.iter().position(|some| any(some, &is)) {
+        Some(k) => lanes[k].iter().position(|x| is(*x)).map(|i| k * N + i),
+        None => rest.iter().position(|x| is(*x)).map(|i| lanes.len() * N + i),
+    }
 }

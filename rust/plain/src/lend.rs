@@ -60,7 +60,7 @@ impl<B: Build> Plain<B> {
             0 => self.link(m, d, p, entry)?,
             table => m.put(table, p % WORDS, entry),
         }
-        self.tables.set_loan(f, Loan::lent(d, p, writes));
+        self.tables.set_loan(who, v, f, Loan::lent(d, p, writes));
         Ok(Answer::Done)
     }
 }

@@ -1,5 +1,5 @@
-//! A keeper in plain Rust, written for speed: it has the tables of the proved one, and asks the machine for the same operations in
-//! the same order.
+//! A keeper in plain Rust, written for speed: its tables are the words of the proved one's room, and it asks the machine for the
+//! same operations in the same order.
 //!
 //! [`Plain`] is it, built with a [`Fault`] or without. [`play_with`] plays a script with either:
 //!
@@ -41,13 +41,17 @@ mod closing;
 mod devices;
 mod fault;
 mod lanes;
+mod layout;
 mod lend;
+#[cfg(test)]
+mod packed;
 mod pages;
 mod plain;
 mod play;
 mod reason;
 mod recall;
 mod records;
+mod rows;
 mod tables;
 
 pub use build::{Build, Planted, Sound};

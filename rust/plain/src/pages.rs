@@ -55,7 +55,7 @@ impl<B: Build> Plain<B> {
         if !has::<B>(Fault::FreedStillShown) {
             m.hide(who, v);
         }
-        self.tables.vacate(who, v, f);
+        self.tables.vacate(who, v);
         Ok(Answer::Done)
     }
 

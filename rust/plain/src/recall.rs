@@ -72,7 +72,7 @@ impl<B: Build> Plain<B> {
             }
             self.settle(m, loan)
         };
-        self.tables.set_loan(f, if home { Loan::HOME } else { loan.leaving() });
+        self.tables.set_loan(who, v, f, if home { Loan::HOME } else { loan.leaving() });
         Ok(if home { Answer::Done } else { Answer::Later })
     }
 }
