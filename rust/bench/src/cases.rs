@@ -1,7 +1,7 @@
 //! What is measured: rounds of calls that leave the machine as it was, behind a setting up that brings it there.
 
 use crate::lines::*;
-use protocol::{Device, Line, PLACES, PROGRAMS, WORDS};
+use protocol::{Device, FEWEST_FRAMES, Line, PLACES, PROGRAMS, WORDS};
 
 /// How much of the memory is in use.
 #[derive(Clone, Copy, Debug, PartialEq, Eq)]
@@ -94,7 +94,8 @@ pub fn cases(frames: u32, fill: Fill) -> Vec<Case> {
         once: false,
     };
     let regs: Vec<Line> = (0..512).map(|k| regs(OTHER, OTHER, k)).collect();
-    let mut registers = case("regs", &[open(OTHER, OTHER)], &[&regs[..], &[close(OTHER, OTHER), open(OTHER, OTHER)]].concat(), 512);
+    let mut registers =
+        case("regs, hidden by close", &[open(OTHER, OTHER)], &[&regs[..], &[close(OTHER, OTHER), open(OTHER, OTHER)]].concat(), 512);
     registers.besides = vec![close(OTHER, OTHER), open(OTHER, OTHER)];
     let mut put_off = case("recall, later", &[lend(WHO, 0, WHO, 0)], &[no(1), recall(WHO, 0)], 1);
     put_off.besides = vec![no(1)];
@@ -110,7 +111,8 @@ pub fn cases(frames: u32, fill: Fill) -> Vec<Case> {
         case("refused: get", &[], &[get(WHO, 0)], 1),
         case("no call: load", &[], &[load(WHO, 0)], 1),
     ];
-    if fill == Fill::Few {
+    // On a larger machine the setting up takes so long that what these take cannot be told from how much it varies.
+    if fill == Fill::Few && frames == FEWEST_FRAMES {
         cases.extend(alone(frames, &setup));
     }
     cases

@@ -53,7 +53,7 @@ fn repeats(case: &Case, frames: u32, repeats: usize) -> usize {
 
 /// Nothing is measured unless both keepers say the same, and none of the calls is refused but where that is what is measured.
 fn agree(proved: &mut Proved, unproved: &mut Unproved, case: &Case) -> f64 {
-    let (none, once) = (script(case, &case.round, 0), script(case, &case.round, 1));
+    let (none, once) = (script(case, &case.besides, 1), script(case, &case.round, 1));
     let (said, asked) = unproved.outcomes(&once);
     assert_eq!(proved.outcomes(&once), said, "{}", case.name);
     let refused = said.iter().filter(|o| matches!(o, Outcome::No(_) | Outcome::Over)).count();
