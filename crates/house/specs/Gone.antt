@@ -1,4 +1,5 @@
--- After a recall, a close or an end that was done: no event touches what was given back, until it is lent again.
+-- After a recall, a close or an end that was done: no event touches what was given back, until it is asked to be lent
+-- again.
 -- Assumes nothing.
 use Rattle.std.specs.Prelude.{◌≡◌, ℕ, ◌<◌, Bool, true, false, ◌&&◌, ◌||◌, T, ◌⊎◌, List, [], ◌∷◌, ◌++◌, ◌==◌}
 use Rattle.house.specs.declared.Call.{Call}
@@ -62,14 +63,16 @@ pub record LentSince (every : Call → Bool) (start : State) (first : List Event
   pub owned : state.what f ≡ Of who at held
   pub first_came : T (first earlier)
 
--- Once done is told for a recall, no later event touches that frame under that device's number until it is lent to it again.
+-- Once done is told for a recall, no later event touches that frame under that device's number before whoever has it then asks
+-- to lend it to that device; done or refused, the asking counts.
 abbrev pub RecalledIsGone : Type 0
 RecalledIsGone =
     (start : State) (every : Call → Bool) (e : Event) (since es : List Event) (s : State) (n : Now) (c v : ℕ) → Run every start (e ∷ (since ++ (Told c (Recall v) Done ∷ es))) s n →
     (b : Began every start c (Recall v) es) × (f : ℕ) × (d : ℕ) × (p : ℕ) × (w : Bool) × (f < b.state.frames) × ((b.state.what f ≡ Of c v (Lent d p w)) ⊎ (b.state.what f ≡ Of c v (Leaving d p w))) ×
     (T (touches d f e) → LentSince every start (λ _. true) d f (Told c (Recall v) Done ∷ es) since)
 
--- Once done is told for a close, no later event touches any frame under that device's number until it is opened and lent that frame.
+-- Once done is told for a close, no later event touches any frame under that device's number before the device is asked to be
+-- opened and, after that, whoever has the frame asks to lend it to the device.
 abbrev pub ClosedIsGone : Type 0
 ClosedIsGone =
     (start : State) (every : Call → Bool) (e : Event) (since es : List Event) (s : State) (n : Now) (c d : ℕ) → Run every start (e ∷ (since ++ (Told c (Close d) Done ∷ es))) s n →

@@ -8,6 +8,7 @@ ghost use Rattle.ledger.specs.Room.{use_of, place_of, device_of, low_of};
 ghost use Rattle.ledger.specs.Changes.{new_page, opened_by, lower_at};
 ghost use Rattle.ledger.specs.Rooms.{says, Becomes};
 ghost use Rattle.ledger.specs.Uses.{is_shut};
+ghost use Rattle.ledger.specs.Searches.{NextIdle};
 ghost use Rattle.house.specs.Operations.{Cleared};
 
 use crate::Machine;
@@ -30,9 +31,9 @@ impl Drop for Taken {
 }
 
 impl Taken {
-    // Some idle frame, looked for from `from` on.
+    // An idle frame: the first from `from` on, if one is idle there.
     pub fn take(room: &Room, from: u32) -> Result<Taken, Refusal>
-        ensures { MatchResult result (λ t. (t.frame < room.now.frames) × (use_of room.now.words.now t.frame ≡ Idle)) (λ e. (e ≡ Refusal.NoFrame) × ((f : ℕ) → f < room.now.frames → use_of room.now.words.now f ≢ Idle)) }
+        ensures { MatchResult result (λ t. NextIdle room.now.words.now room.now.frames from t.frame) (λ e. (e ≡ Refusal.NoFrame) × ((f : ℕ) → f < room.now.frames → use_of room.now.words.now f ≢ Idle)) }
     {
         match find_idle(room.words(), room.frames(), from) {
             Some(frame) => Ok(Taken { frame }),

@@ -1,5 +1,5 @@
 -- A page of a device is taken by a page that a place of the program that has the device shows.
-use Rattle.std.proofs.Common.{◌+◌, ◌-◌, ◌*◌, ◌/◌, ◌≤◌, slice_index, eqb, subst, ⊎_elim, Option, Some, None, MatchOption, ◌≡◌, ℕ, ◌<◌, Bool, true, List, Decides, sym, refl, ap, ◌∙◌, arith}
+use Rattle.std.proofs.Common.{◌+◌, ◌-◌, ◌*◌, ◌/◌, ◌≤◌, slice_index, eqb, subst, ⊎_elim, ◌≡◌, ℕ, ◌<◌, Bool, true, List, Decides, sym, refl, ap, ◌∙◌, arith}
 use Rattle.std.proofs.lemmas.Bool.{and_parts, eqb-true, cases_lt, false≢true}
 use Rattle.ledger.specs.declared.Loan.{Loan}
 use Rattle.ledger.specs.declared.Loan.TheVariants.{Home, Lent, Leaving}
@@ -49,12 +49,6 @@ module _ (n : ℕ) (r : List ℕ) (K : Consistent n r) (c d p : ℕ) (owner : ow
 
   pub taken_decides : (b : Bool) → Decides b ((v : ℕ) × (v < 1024) × (is_at d p (loan_shown (use_of r) (place_of r c v)) ≡ true)) → Decides b ((f : ℕ) × (f < n) × (is_at d p (loan_in (use_of r f)) ≡ true))
   taken_decides b h = (λ e. shows_taken (h.0 e), λ t. h.1 (taken_shows t.0 t.1 t.2))
-
--- what is found first in a range is found
-pub first_of_range : (a b : ℕ) (Yes No : ℕ → Type 0) (r : Option ℕ) → MatchOption r ((k : ℕ) → a ≤ k → k < b → No k) (λ i. (a ≤ i) × (i < b) × Yes i × ((k : ℕ) → a ≤ k → k < i → No k)) →
-    MatchOption r ((k : ℕ) → a ≤ k → k < b → No k) (λ i. (a ≤ i) × (i < b) × Yes i)
-first_of_range a b Yes No None h = h
-first_of_range a b Yes No (Some i) h = (h.0, h.1, h.2)
 
 -- what is at page p of d has its tag
 at_tag : (d p : ℕ) (l : Loan) → is_at d p l ≡ true → tag_for l ≡ tag_at d p

@@ -6,3 +6,4 @@ pub mod Consistent
 pub mod Facts
 pub mod Changes
 pub mod Rooms
+pub mod Searches

@@ -4,6 +4,7 @@ ghost use Rattle.ledger.specs.declared.Use.TheVariants.{Idle};
 ghost use Rattle.ledger.specs.Room.{use_of, place_of, device_of};
 ghost use Rattle.ledger.specs.Uses.{is_at, loan_in, loan_shown, held_by_other};
 ghost use Rattle.ledger.specs.Consistent.{Consistent};
+ghost use Rattle.ledger.specs.Searches.{NextIdle};
 
 use crate::blocks::bits;
 use crate::devices::device_at;
@@ -16,15 +17,15 @@ use crate::{Address, Device, Loan, Place, Room, Use};
 fn idle_between(words: &[u64], from: u32, to: u32) -> Option<u32>
     requires long { 65536 + 2 * to ≤ length words.now }
     requires order { from ≤ to }
-    ensures { MatchOption result ((f : ℕ) → from ≤ f → f < to → use_of words.now f ≢ Idle) (λ f. (from ≤ f) × (f < to) × (use_of words.now f ≡ Idle)) }
+    ensures { MatchOption result ((f : ℕ) → from ≤ f → f < to → use_of words.now f ≢ Idle) (λ f. (from ≤ f) × (f < to) × (use_of words.now f ≡ Idle) × ((g : ℕ) → from ≤ g → g < f → use_of words.now g ≢ Idle)) }
 {
     (from..to).find(|&f| use_at(words, f) == Use::Idle)
 }
 
-// An idle frame, looked for from `from` on and then from 0; None only where no frame is idle.
+// The first idle frame from `from` on, and where there is none, one before it; None only where no frame is idle.
 pub fn find_idle(words: &[u64], frames: u32, from: u32) -> Option<u32>
     requires { 65536 + 2 * frames ≤ length words.now }
-    ensures { MatchOption result ((f : ℕ) → f < frames → use_of words.now f ≢ Idle) (λ f. (f < frames) × (use_of words.now f ≡ Idle)) }
+    ensures { MatchOption result ((f : ℕ) → f < frames → use_of words.now f ≢ Idle) (λ f. NextIdle words.now frames from f) }
 {
     let start = from.min(frames);
     match idle_between(words, start, frames) {

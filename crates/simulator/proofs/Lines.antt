@@ -96,10 +96,10 @@ pokes_at_store p q c v k x d lc lv e a = noted_line p q _ (line.Store c v k x) s
 
 -- a place that shows no page, of a load as of a store
 pub shown_faults : (p q : Parts) (c v k : ℕ) → c < 32 → v < 1024 → space_of p.space c v ≡ Nothing → q ≡ noted (note.Faulted c v ∷ p.notes) p → Showed p c v k (Ok (Err say.Fault)) q
-shown_faults p q c v k lc lv e a = let z = faults_at_load p q c v k lc lv e a in (z.0, z.1, λ x. (faults_at_store p q c v k x lc lv e a).1)
+shown_faults p q c v k lc lv e a = let z = faults_at_load p q c v k lc lv e a in (z.0, z.1, λ x. (faults_at_store p q c v k x lc lv e a).1, λ n. absurd cc)
 
 pub shown_pokes : (p q : Parts) (c v k d : ℕ) → c < 32 → v < 1024 → space_of p.space c v ≡ Registers d → q ≡ noted (note.Poked c v d ∷ p.notes) p → Showed p c v k (Ok (Err say.Poked)) q
-shown_pokes p q c v k d lc lv e a = let z = pokes_at_load p q c v k d lc lv e a in (z.0, z.1, λ x. (pokes_at_store p q c v k x d lc lv e a).1)
+shown_pokes p q c v k d lc lv e a = let z = pokes_at_load p q c v k d lc lv e a in (z.0, z.1, λ x. (pokes_at_store p q c v k x d lc lv e a).1, λ n. absurd cc)
 
 -- a place that shows a page: no room to note what is done there, or a word is loaded
 pub shown_full : (p q r : Parts) (c v k f : ℕ) → Showed p c v k (Ok (Ok f)) q → r ≡ q → Same p r

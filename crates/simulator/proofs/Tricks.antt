@@ -119,5 +119,5 @@ put_by_goes p q l k x (Ok u) m lk lx t =
 
 pub miss_goes : (p q : Parts) (d g : ℕ) (w : Bool) (r : Result Bool NoRoom) → d < length p.devices → g < 262144 → MissedAt p d g w r q → Goes p q
 miss_goes p q d g w (Err e) ld lg t = same_goes p q t
-miss_goes p q d g w (Ok false) ld lg t = same_goes p q t
+miss_goes p q d g w (Ok false) ld lg t = same_goes p q t.0
 miss_goes p q d g w (Ok true) ld lg t = steps_at {h = hw_of p} {es = seen_of p} refl refl (sym t.1) (sym t.2) (more (misses (hw_of p) d g w ld lg t.0) (none _ _))

@@ -32,12 +32,15 @@ abbrev pub PutAt : Parts → ℕ → ℕ → ℕ → ℕ → ℕ → Result (Uni
 PutAt p d g e k x (Err r) q = Same p q × Declined p e r
 PutAt p d g e k x (Ok u) q = T (may_write e) × (hw_of q ≡ with_mem (put (frame_in e) k x (mem_of p.mem)) (hw_of p)) × (seen_of q ≡ PutInto d g (frame_in e) k x ∷ seen_of p)
 
+-- the tables have no entry for page g of device d, or none that may be written where it is to write
+abbrev pub NoWay : Parts → ℕ → ℕ → Bool → Type 0
+NoWay p d g w = (walked (hw_of p) d g ≡ 0) ⊎ (T w × T (not (may_write (walked (hw_of p) d g))))
+
 -- nothing is found there, or nothing that may be written
 abbrev pub MissedAt : Parts → ℕ → ℕ → Bool → Result Bool Full → Parts → Type 0
 MissedAt p d g w (Err r) q = Same p q
-MissedAt p d g w (Ok false) q = Same p q
-MissedAt p d g w (Ok true) q =
-    ((walked (hw_of p) d g ≡ 0) ⊎ (T w × T (not (may_write (walked (hw_of p) d g))))) × (hw_of q ≡ hw_of p) × (seen_of q ≡ Missed d g w ∷ seen_of p)
+MissedAt p d g w (Ok false) q = Same p q × (NoWay p d g w → ⊥)
+MissedAt p d g w (Ok true) q = NoWay p d g w × (hw_of q ≡ hw_of p) × (seen_of q ≡ Missed d g w ∷ seen_of p)
 
 -- page g of device d is kept
 abbrev pub KeepsPage : ℕ → ℕ → Parts → Type 0

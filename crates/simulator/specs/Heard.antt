@@ -1,6 +1,6 @@
 -- What is handed over for a line of a script.
 -- Assumes nothing.
-use Rattle.std.specs.Prelude.{◌≡◌, ℕ, Bool, true, false, List, ◌∷◌, Some, Result, Ok, Err, MatchBool}
+use Rattle.std.specs.Prelude.{◌≡◌, ℕ, ◌<◌, ◌≤◌, Bool, true, false, List, ◌∷◌, Some, Result, Ok, Err, MatchBool}
 use Rattle.house.specs.declared.Call.{Call}
 use Rattle.house.specs.declared.Call.TheVariants as call
 use Rattle.house.specs.declared.Answer.{Answer}
@@ -71,6 +71,19 @@ pub data Heard (es : List Event) : Line → Outcome → List Event → Type 0 wh
   -- a number out of range; no room to note it
   beyond : (l : Line) → Heard es l (say.No 1) es
   full : (l : Line) → Heard es l say.Over es
+
+-- a number of the line is out of range, where there are n devices
+abbrev pub Beyond : ℕ → Line → Type 0
+Beyond n (line.Call c r) = 32 ≤ c
+Beyond n (line.Load c v k) = c < 32 → v < 1024 → k < 512 → ⊥
+Beyond n (line.Store c v k x) = c < 32 → v < 1024 → k < 512 → ⊥
+Beyond n (line.Read d p k) = d < n → p < 262144 → k < 512 → ⊥
+Beyond n (line.Write d p k x) = d < n → p < 262144 → k < 512 → ⊥
+Beyond n (line.Keep d p) = d < n → p < 262144 → ⊥
+Beyond n (line.Kept d p k x) = d < n → p < 262144 → k < 512 → ⊥
+Beyond n (line.Refuse m) = ⊥
+Beyond n (line.Seed s) = ⊥
+Beyond n line.New = ⊥
 
 -- what is said where a line may be refused
 abbrev pub said_of : Result Outcome Refused → Outcome

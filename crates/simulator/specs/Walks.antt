@@ -3,6 +3,7 @@
 use Rattle.std.specs.Prelude.{◌≡◌, ℕ, suc, ◌/◌, ◌%◌, ◌<◌, Bool, true, T, length, Option, Some, None, Result, Ok, Err}
 use Rattle.simulator.specs.declared.board.walks.Way.{Way}
 use Rattle.simulator.specs.declared.refused.Refused.{Refused}
+use Rattle.simulator.specs.declared.refused.Refused.TheVariants.{OutOfRange}
 use Rattle.simulator.specs.Store.{mem_of}
 use Rattle.simulator.specs.Parts.{Parts}
 use Rattle.simulator.specs.Effects.{Same, MissedAt}
@@ -26,6 +27,6 @@ pub record IsWay (p : Parts) (w : Way) : Type 0 where
 
 -- an access to word k of page g of device d, by the tables as they stand: refused, missed, or what it goes by
 abbrev pub Reached : Parts → ℕ → ℕ → ℕ → Bool → Result (Option Way) Refused → Parts → Type 0
-Reached p d g k w (Err e) q = Same p q
+Reached p d g k w (Err e) q = Same p q × (e ≡ OutOfRange → d < length p.devices → g < 262144 → k < 512 → ⊥)
 Reached p d g k w (Ok None) q = (d < length p.devices) × (g < 262144) × MissedAt p d g w (Ok true) q
 Reached p d g k w (Ok (Some y)) q = (k < 512) × Same p q × IsWay q y × (y.page.device ≡ d) × (y.page.page ≡ g)

@@ -71,6 +71,7 @@ impl<'a, T: Copy> Front<'a, T> {
     pub fn remove(&mut self, i: usize)
         requires { i < self.old.count }
         ensures list { newest self.new ≡ drop_one (self.old.count - 1 - i) (newest self.old) }
+        ensures count { self.new.count + 1 ≡ self.old.count }
         ensures len { length self.new.all.now ≡ length self.old.all.now }
     {
         self.all.copy_within(i + 1..self.count, i);

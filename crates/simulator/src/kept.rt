@@ -1,5 +1,5 @@
 // What the unit keeps of one kind, or has under way: nothing stands there twice.
-ghost use Rattle.std.specs.Prelude.{◌≡◌, ℕ, ◌≤◌, false, length, IfSome, MatchResult, find, ◌==◌, ◌&&◌};
+ghost use Rattle.std.specs.Prelude.{◌≡◌, ℕ, ◌-◌, ◌≤◌, false, length, MatchOption, MatchResult, find, ◌==◌, ◌&&◌};
 ghost use Rattle.house.specs.Machine.{drop_one};
 ghost use mathlib.Core.List.{Memᴰ};
 ghost use Rattle.simulator.specs.Kept.{among, learnt};
@@ -27,7 +27,7 @@ impl<'a, T: Cached> Front<'a, T> {
 
     // One of them, if there is any.
     pub fn pick(&self, dice: &mut Dice) -> Option<T>
-        ensures { IfSome result (λ x. Memᴰ x (newest self.now)) }
+        ensures { MatchOption result (self.now.count ≡ 0) (λ x. Memᴰ x (newest self.now)) }
     {
         let n = self.len();
         if n == 0 {
@@ -39,7 +39,8 @@ impl<'a, T: Cached> Front<'a, T> {
 
     // Forgets one of them, if there is any.
     pub fn lose_one(&mut self, dice: &mut Dice)
-        ensures { (k : ℕ) × (newest self.new ≡ drop_one k (newest self.old)) }
+        ensures list { (k : ℕ) × (newest self.new ≡ drop_one k (newest self.old)) }
+        ensures count { self.new.count ≡ self.old.count - 1 }
     {
         let n = self.len();
         if n > 0 {

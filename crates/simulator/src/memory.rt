@@ -1,6 +1,6 @@
 // Frames of 512 words in one lent slice.
 // Plain numbers, as the trait `Machine` has them.
-ghost use Rattle.std.specs.Prelude.{◌≡◌, ℕ, ◌+◌, ◌*◌, ◌/◌, ◌%◌, ◌^◌, ◌<◌, ◌≤◌, length, IfSome, slice_index, slice_set};
+ghost use Rattle.std.specs.Prelude.{◌≡◌, ℕ, ◌+◌, ◌*◌, ◌/◌, ◌%◌, ◌^◌, ◌<◌, ◌≤◌, length, MatchOption, slice_index, slice_set};
 ghost use Rattle.simulator.specs.Store.{mem_of};
 
 use crate::ranges::WORDS;
@@ -61,7 +61,7 @@ impl<'a> Memory<'a> {
     // The first of some words of a frame that is not 0.
     fn set_among(&self, frame: u64, mut words: Range<u32>) -> Option<u32>
         requires { words.end ≤ 512 }
-        ensures { IfSome result (λ k. (k < 512) × (0 < mem_of self.now.words.now frame k)) }
+        ensures { MatchOption result ((k : ℕ) → words.start ≤ k → k < words.end → mem_of self.now.words.now frame k ≡ 0) (λ k. (words.start ≤ k) × (k < words.end) × (0 < mem_of self.now.words.now frame k) × ((i : ℕ) → words.start ≤ i → i < k → mem_of self.now.words.now frame i ≡ 0)) }
     {
         words.find(|k| self.word(frame, *k) > 0)
     }
@@ -69,7 +69,7 @@ impl<'a> Memory<'a> {
     // The first word of a frame that is not 0, from `from` on and then from its start.
     pub fn first_set(&self, frame: u64, from: u32) -> Option<u32>
         requires { from < 512 }
-        ensures { IfSome result (λ k. (k < 512) × (0 < mem_of self.now.words.now frame k)) }
+        ensures { MatchOption result ((k : ℕ) → k < 512 → mem_of self.now.words.now frame k ≡ 0) (λ k. (k < 512) × (0 < mem_of self.now.words.now frame k)) }
     {
         if let Some(k) = self.set_among(frame, from..WORDS) {
             return Some(k);

@@ -1,9 +1,11 @@
 // Machines that play a script one after the other, each with the keeper.
-ghost use Rattle.std.specs.Prelude.{◌≡◌, ◌≤◌, [], length};
+ghost use Rattle.std.specs.Prelude.{◌≡◌, ◌+◌, ◌/◌, ◌<◌, ◌≤◌, ◌⊎◌, [], length, IfErr};
 ghost use Rattle.house.specs.Machine.{AtStart};
 ghost use Rattle.house.specs.Promise.{room_of};
 ghost use Rattle.simulator.specs.Parts.{hw_of, seen_of};
 ghost use Rattle.simulator.specs.View.{parts_of};
+ghost use Rattle.simulator.specs.Fit.{Misfit};
+ghost use Rattle.simulator.specs.declared.lent.Unfit.TheVariants.{Room};
 
 use crate::board::Board;
 use crate::devices::Device;
@@ -57,7 +59,9 @@ pub fn play_on<'a, S: Script>(
     devices: &'a [Device],
     room: &mut [u64],
     script: &mut S,
-) -> Result<bool, Unfit> {
+) -> Result<bool, Unfit>
+    ensures { IfErr result (λ e. Misfit e (length lent.entry.memory.now) (length lent.entry.spaces.now) devices.now (length lent.entry.log.now) ⊎ ((e ≡ Room) × (length room.entry.now < 65536 + length lent.entry.memory.now / 256))) }
+{
     check(
         lent.memory.len(),
         lent.spaces.len(),

@@ -1,5 +1,5 @@
 // Which numbers of a line are in range.
-ghost use Rattle.std.specs.Prelude.{◌≡◌, ◌<◌, ◌≤◌, MatchResult, IfOk};
+ghost use Rattle.std.specs.Prelude.{◌≡◌, ◌<◌, ◌≤◌, MatchResult};
 ghost use Rattle.simulator.specs.declared.refused.Refused.TheVariants.{OutOfRange};
 
 use crate::refused::Refused;
@@ -25,7 +25,7 @@ pub fn below(n: u32, end: u32) -> Result<(), Refused>
 
 // A word at a place of a program's space.
 pub fn in_space(who: u32, v: u32, word: u32) -> Result<(), Refused>
-    ensures { IfOk result (λ _. (who < 32) × (v < 1024) × (word < 512)) }
+    ensures { MatchResult result (λ _. (who < 32) × (v < 1024) × (word < 512)) (λ e. (e ≡ OutOfRange) × (who < 32 → v < 1024 → word < 512 → ⊥)) }
 {
     below(who, PROGRAMS)?;
     below(v, PLACES)?;

@@ -1,11 +1,13 @@
 // Calls: a program asks, and is told.
-ghost use Rattle.std.specs.Prelude.{◌≡◌, ◌+◌, ◌≤◌, ◌∷◌, length};
+ghost use Rattle.std.specs.Prelude.{◌≡◌, ℕ, ◌+◌, ◌<◌, ◌≤◌, ◌∷◌, length, Some, Ok, IfOk, IfErr};
 ghost use Rattle.house.specs.Event.{Told};
 ghost use Rattle.house.specs.Meaning.{Explained};
 ghost use Rattle.house.specs.Promise.{can, start_of};
-ghost use Rattle.script.specs.declared.forms.Line.TheVariants.{Call as Calls};
+ghost use Rattle.script.specs.declared.forms.Line.TheVariants.{Call as Calls, Refuse, Seed};
+ghost use Rattle.script.specs.declared.outcomes.Outcome.TheVariants.{No};
+ghost use Rattle.simulator.specs.declared.replies.Reply.TheVariants.{Says};
 ghost use Rattle.simulator.specs.Parts.{hw_of, seen_of};
-ghost use Rattle.simulator.specs.Heard.{Replied, Answered, reply_of};
+ghost use Rattle.simulator.specs.Heard.{Replied, Answered, Beyond, reply_of};
 ghost use Rattle.simulator.specs.View.{parts_of};
 
 use super::Board;
@@ -29,7 +31,8 @@ impl<'a> Board<'a> {
     #[inline(always)]
     fn ask(&mut self, who: u32, request: Request) -> Result<Reply, Refused>
         requires { self.old.log.rows.count + 2050 ≤ length self.old.log.rows.all.now }
-        ensures { Replied (Calls who request) (parts_of self.old) (reply_of result) (parts_of self.new) }
+        ensures replied { Replied (Calls who request) (parts_of self.old) (reply_of result) (parts_of self.new) }
+        ensures beyond { reply_of result ≡ Says (No 1) → 32 ≤ who }
     {
         below(who, PROGRAMS)?;
         let call = call_of(request);
@@ -72,7 +75,10 @@ impl<'a> Board<'a> {
     #[inline(always)]
     fn reply(&mut self, line: Line) -> Result<Reply, Refused>
         requires { self.old.log.rows.count + 2050 ≤ length self.old.log.rows.all.now }
-        ensures { Replied line (parts_of self.old) (reply_of result) (parts_of self.new) }
+        ensures replied { Replied line (parts_of self.old) (reply_of result) (parts_of self.new) }
+        ensures beyond { reply_of result ≡ Says (No 1) → Beyond (length (parts_of self.old).devices) line }
+        ensures refusals { (n : ℕ) → line ≡ Refuse n → self.new.refusals ≡ n }
+        ensures sown { (s : ℕ) → line ≡ Seed s → self.new.dice ≡ Some (record { state = s }) }
     {
         Ok(match line {
             Line::Call { who, request } => self.ask(who, request)?,
@@ -97,7 +103,11 @@ impl<'a> Board<'a> {
     // What becomes of a line. Nothing any more once there is no room for a call.
     #[inline(always)]
     pub fn answer(&mut self, line: Line) -> Result<Reply, NoRoom>
-        ensures { Answered line (parts_of self.old) result (parts_of self.new) }
+        ensures answered { Answered line (parts_of self.old) result (parts_of self.new) }
+        ensures beyond { result ≡ Ok (Says (No 1)) → Beyond (length (parts_of self.old).devices) line }
+        ensures full { IfErr result (λ _. length self.old.log.rows.all.now < self.old.log.rows.count + 2050) }
+        ensures refusals { IfOk result (λ _. (n : ℕ) → line ≡ Refuse n → self.new.refusals ≡ n) }
+        ensures sown { IfOk result (λ _. (s : ℕ) → line ≡ Seed s → self.new.dice ≡ Some (record { state = s })) }
     {
         if self.log.room() < CALL {
             return Err(NoRoom);

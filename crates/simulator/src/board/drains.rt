@@ -1,8 +1,9 @@
 // Drains: when the unit forgets a device, and what it says of that.
-ghost use Rattle.std.specs.Prelude.{◌≡◌, ◌-◌, ◌<◌, true, false, ◌∷◌};
+ghost use Rattle.std.specs.Prelude.{◌≡◌, ℕ, ◌-◌, ◌/◌, ◌%◌, ◌<◌, true, false, ◌∷◌, Some, ◌==◌};
 ghost use Rattle.house.specs.Event.{Drained};
 ghost use Rattle.house.specs.Machine.{counted, Drains, Forgotten};
 ghost use Rattle.simulator.specs.Parts.{hw_of, seen_of, Goes};
+ghost use Rattle.simulator.specs.Draws.{drawn};
 ghost use Rattle.simulator.specs.View.{parts_of};
 
 use super::Board;
@@ -14,6 +15,7 @@ impl<'a> Board<'a> {
         ensures parts { parts_of self.new ≡ parts_of self.old }
         ensures told { 0 < self.old.refusals → result ≡ true }
         ensures unseeded { self.old.refusals ≡ 0 → self.old.dice ≡ None → result ≡ false }
+        ensures seeded { (s : ℕ) → self.old.refusals ≡ 0 → self.old.dice ≡ Some (record { state = s }) → result ≡ (drawn s / 8589934592 % 4 == 0) }
         ensures left { self.new.refusals ≡ self.old.refusals - 1 }
     {
         if self.refusals > 0 {

@@ -1,14 +1,15 @@
 // Lines about devices and the unit: accesses by the tables, keeping a page, writing by what was kept.
 // Their numbers are as a line of a script has them: tested here.
-ghost use Rattle.std.specs.Prelude.{◌≡◌, ◌<◌, IfOk, length};
+ghost use Rattle.std.specs.Prelude.{◌≡◌, ◌<◌, IfOk, length, MatchResult};
 ghost use Rattle.script.specs.declared.forms.Line.TheVariants.{Read, Write, Keep, Kept as KeptWrite};
+ghost use Rattle.simulator.specs.declared.refused.Refused.TheVariants.{OutOfRange};
 ghost use Rattle.simulator.specs.Parts.{seen_of, Ran, Goes};
-ghost use Rattle.simulator.specs.Heard.{Heard, said_of};
+ghost use Rattle.simulator.specs.Heard.{Heard, Beyond, said_of};
 ghost use Rattle.simulator.specs.View.{parts_of};
 ghost use Rattle.simulator.specs.Effects.{KeepsPage};
 ghost use Rattle.simulator.specs.Walks.{IsWay, Reached};
 ghost use mathlib.Core.List.{Memᴰ};
-ghost use Rattle.script.specs.declared.outcomes.Outcome.TheVariants.{Kept as KeptSaid};
+ghost use Rattle.script.specs.declared.outcomes.Outcome.TheVariants.{Kept as KeptSaid, No};
 
 use super::Board;
 use super::walks::Way;
@@ -20,7 +21,7 @@ use script::Outcome;
 impl<'a> Board<'a> {
     // Is there such a device, and such a page of it?
     fn has_page(&self, d: u32, p: u32) -> Result<(), Refused>
-        ensures { IfOk result (λ _. (d < length (parts_of self.now).devices) × (p < 262144)) }
+        ensures { MatchResult result (λ _. (d < length (parts_of self.now).devices) × (p < 262144)) (λ e. (e ≡ OutOfRange) × (d < length (parts_of self.now).devices → p < 262144 → ⊥)) }
     {
         below(d, self.devices())?;
         below(p, PAGES)
@@ -45,6 +46,7 @@ impl<'a> Board<'a> {
     pub fn read(&mut self, d: u32, p: u32, word: u32) -> Result<Outcome, Refused>
         ensures ran { Ran (parts_of self.old) (parts_of self.new) }
         ensures heard { Heard (seen_of (parts_of self.old)) (Read d p word) (said_of result) (seen_of (parts_of self.new)) }
+        ensures beyond { said_of result ≡ No 1 → Beyond (length (parts_of self.old).devices) (Read d p word) }
     {
         let Some(way) = self.reach(d, p, word, false)? else {
             return Ok(Outcome::Miss);
@@ -57,6 +59,7 @@ impl<'a> Board<'a> {
     pub fn write(&mut self, d: u32, p: u32, word: u32, x: u64) -> Result<Outcome, Refused>
         ensures ran { Ran (parts_of self.old) (parts_of self.new) }
         ensures heard { Heard (seen_of (parts_of self.old)) (Write d p word x) (said_of result) (seen_of (parts_of self.new)) }
+        ensures beyond { said_of result ≡ No 1 → Beyond (length (parts_of self.old).devices) (Write d p word x) }
     {
         let Some(way) = self.reach(d, p, word, true)? else {
             return Ok(Outcome::Miss);
@@ -81,6 +84,7 @@ impl<'a> Board<'a> {
     pub fn keep(&mut self, d: u32, p: u32) -> Result<Outcome, Refused>
         ensures ran { Ran (parts_of self.old) (parts_of self.new) }
         ensures heard { Heard (seen_of (parts_of self.old)) (Keep d p) (said_of result) (seen_of (parts_of self.new)) }
+        ensures beyond { said_of result ≡ No 1 → Beyond (length (parts_of self.old).devices) (Keep d p) }
         ensures kept { said_of result ≡ KeptSaid → KeepsPage d p (parts_of self.new) }
     {
         self.has_page(d, p)?;
@@ -97,6 +101,7 @@ impl<'a> Board<'a> {
     pub fn write_kept(&mut self, d: u32, p: u32, word: u32, x: u64) -> Result<Outcome, Refused>
         ensures ran { Ran (parts_of self.old) (parts_of self.new) }
         ensures heard { Heard (seen_of (parts_of self.old)) (KeptWrite d p word x) (said_of result) (seen_of (parts_of self.new)) }
+        ensures beyond { said_of result ≡ No 1 → Beyond (length (parts_of self.old).devices) (KeptWrite d p word x) }
     {
         self.has_page(d, p)?;
         below(word, WORDS)?;

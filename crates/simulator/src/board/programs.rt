@@ -1,7 +1,9 @@
 // What programs do with their spaces while nobody is served. Their numbers are as a line of a script has them: tested here.
 ghost use Rattle.script.specs.declared.forms.Line.TheVariants.{Load, Store};
 ghost use Rattle.simulator.specs.Parts.{seen_of, Ran};
-ghost use Rattle.simulator.specs.Heard.{Heard, said_of};
+ghost use Rattle.std.specs.Prelude.{◌≡◌, length};
+ghost use Rattle.script.specs.declared.outcomes.Outcome.TheVariants.{No};
+ghost use Rattle.simulator.specs.Heard.{Heard, Beyond, said_of};
 ghost use Rattle.simulator.specs.Shows.{Showed};
 ghost use Rattle.simulator.specs.View.{parts_of};
 
@@ -35,6 +37,7 @@ impl<'a> Board<'a> {
     pub fn load(&mut self, who: u32, v: u32, word: u32) -> Result<Outcome, Refused>
         ensures ran { Ran (parts_of self.old) (parts_of self.new) }
         ensures heard { Heard (seen_of (parts_of self.old)) (Load who v word) (said_of result) (seen_of (parts_of self.new)) }
+        ensures beyond { said_of result ≡ No 1 → Beyond (length (parts_of self.old).devices) (Load who v word) }
     {
         let frame = match self.frame_shown(who, v, word)? {
             Ok(frame) => frame,
@@ -49,6 +52,7 @@ impl<'a> Board<'a> {
     pub fn store(&mut self, who: u32, v: u32, word: u32, x: u64) -> Result<Outcome, Refused>
         ensures ran { Ran (parts_of self.old) (parts_of self.new) }
         ensures heard { Heard (seen_of (parts_of self.old)) (Store who v word x) (said_of result) (seen_of (parts_of self.new)) }
+        ensures beyond { said_of result ≡ No 1 → Beyond (length (parts_of self.old).devices) (Store who v word x) }
     {
         let frame = match self.frame_shown(who, v, word)? {
             Ok(frame) => frame,

@@ -1,6 +1,6 @@
 // The way through the tables in memory.
 // Plain numbers, as the trait `Machine` has them.
-ghost use Rattle.std.specs.Prelude.{◌≡◌, ◌*◌, ◌/◌, ◌<◌, ◌≤◌, IfSome, MatchOption};
+ghost use Rattle.std.specs.Prelude.{◌≡◌, ◌*◌, ◌/◌, ◌<◌, ◌≤◌, ◌⊎◌, IfSome, IfNone, MatchOption};
 ghost use Rattle.house.specs.Machine.{walked};
 ghost use Rattle.simulator.specs.Parts.{hw_of};
 ghost use Rattle.simulator.specs.View.{parts_of};
@@ -74,6 +74,7 @@ impl<'a> Board<'a> {
     pub fn way(&self, d: u32, p: u32) -> Option<Way>
         requires d { d < 512 }
         requires p { p < 262144 }
+        ensures none { IfNone result ((walked (hw_of (parts_of self.now)) d p ≡ 0) ⊎ (2 * (parts_of self.now).frames < walked (hw_of (parts_of self.now)) d p)) }
         ensures path { IfSome result (λ w. Path (parts_of self.now) d p w.upper.table w.lower.table w.page.entry) }
         ensures upper { IfSome result (λ w. w.upper.device ≡ d) }
         ensures lower { IfSome result (λ w. (w.lower.device ≡ d) × (w.lower.slot ≡ p / 512)) }

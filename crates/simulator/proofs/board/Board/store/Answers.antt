@@ -1,16 +1,17 @@
+use Rattle.std.proofs.Common.{rules}
 use Rattle.script.specs.declared.forms.Line.TheVariants as line
 use Rattle.simulator.specs.View.{parts_of}
 use Rattle.simulator.proofs.Lines.{refused_at, shown_full, store_stores}
 use Rattle.simulator.proofs.board.Board.store.Goals as goal
 
 pub returns-in_err-frame : goal.returns-in_err-frame
-returns-in_err-frame c = let z = refused_at (parts_of c.args.self.now) (parts_of c.frame_shown.new.self) (line.Store c.args.who c.args.v c.args.word c.args.x) c.from_residual.result c.from_residual.ensures.0 c.in_err-frame.ensures in record { ran = z.0; heard = z.1 }
+returns-in_err-frame c = let z = refused_at (parts_of c.args.self.now) (parts_of c.frame_shown.new.self) (line.Store c.args.who c.args.v c.args.word c.args.x) c.from_residual.result c.from_residual.ensures.0 c.in_err-frame.ensures.0 in record { ran = z.0; heard = z.1; beyond = search rules }
 
 pub returns-in_err-note_aside : goal.returns-in_err-note_aside
 returns-in_err-note_aside c =
     let s = shown_full (parts_of c.args.self.now) (parts_of c.frame_shown.new.self) (parts_of c.note_aside.new.self) c.args.who c.args.v c.args.word c.in-Ok.frame (rw c.in-Ok.is at c.in_ok-frame.ensures) c.in_err-note_aside.ensures.parts in
-    let z = refused_at (parts_of c.args.self.now) (parts_of c.note_aside.new.self) (line.Store c.args.who c.args.v c.args.word c.args.x) c.from_residual-in_err-note_aside.result c.from_residual-in_err-note_aside.ensures.0 s in record { ran = z.0; heard = z.1 }
+    let z = refused_at (parts_of c.args.self.now) (parts_of c.note_aside.new.self) (line.Store c.args.who c.args.v c.args.word c.args.x) c.from_residual-in_err-note_aside.result c.from_residual-in_err-note_aside.ensures.0 s in record { ran = z.0; heard = z.1; beyond = search rules }
 
 pub returns : goal.returns
 returns c =
-    let z = store_stores (parts_of c.args.self.now) (parts_of c.frame_shown.new.self) (parts_of c.note_aside.new.self) c.args.who c.args.v c.args.word c.in-Ok.frame c.args.x c.write.new.self.frames c.write.new.self.words.now (rw c.in-Ok.is at c.in_ok-frame.ensures) c.ranges.x.fits c.args.self.now.memory.whole c.in_ok-note_aside.ensures.parts c.write.ensures.frames c.write.ensures.words in record { ran = z.0; heard = z.1 }
+    let z = store_stores (parts_of c.args.self.now) (parts_of c.frame_shown.new.self) (parts_of c.note_aside.new.self) c.args.who c.args.v c.args.word c.in-Ok.frame c.args.x c.write.new.self.frames c.write.new.self.words.now (rw c.in-Ok.is at c.in_ok-frame.ensures) c.ranges.x.fits c.args.self.now.memory.whole c.in_ok-note_aside.ensures.parts c.write.ensures.frames c.write.ensures.words in record { ran = z.0; heard = z.1; beyond = search rules }
