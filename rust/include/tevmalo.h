@@ -88,7 +88,7 @@ struct tevmalo_played {
    one more. What the four slices of what the IOMMU keeps have no room for is not kept. What the slices hold before does not matter.
 
    0: it was played. `said` has a row for each line that was read, and the front of `log` the events, the earliest first.
-   Otherwise nothing was played or written:
+   Otherwise nothing was played or written, and it is the first reason that applies:
    1 frames, 2 more than 32 devices, 3 a group or a driver, 4 log, 5 room, 6 said.
 
    Every pointer is not null, also where its length is 0. Slices that are written overlap no other. The call takes less than half a

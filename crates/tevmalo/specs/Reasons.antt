@@ -15,13 +15,13 @@ number_of Log = 4
 number_of Room = 5
 number_of Spaces = 7
 
--- the reason by which these are refused, 0 if they are not
+-- the first reason that applies, 0 if none does
 abbrev pub Reason : Lengths → List Device → ℕ → Type 0
 Reason n ds zero = Fit n.memory 32768 ds n.log × (65536 + n.memory / 256 ≤ n.room) × (n.lines ≤ n.said)
 Reason n ds (suc zero) = Misfit Frames n.memory 32768 ds n.log
 Reason n ds (suc (suc zero)) = Misfit Devices n.memory 32768 ds n.log
 Reason n ds (suc (suc (suc zero))) = Misfit Numbers n.memory 32768 ds n.log
 Reason n ds (suc (suc (suc (suc zero)))) = Misfit Log n.memory 32768 ds n.log
-Reason n ds (suc (suc (suc (suc (suc zero))))) = n.room < 65536 + n.memory / 256
-Reason n ds (suc (suc (suc (suc (suc (suc zero)))))) = n.said < n.lines
+Reason n ds (suc (suc (suc (suc (suc zero))))) = Fit n.memory 32768 ds n.log × (n.room < 65536 + n.memory / 256)
+Reason n ds (suc (suc (suc (suc (suc (suc zero)))))) = Fit n.memory 32768 ds n.log × (65536 + n.memory / 256 ≤ n.room) × (n.said < n.lines)
 Reason n ds (suc (suc (suc (suc (suc (suc (suc k))))))) = ⊥
