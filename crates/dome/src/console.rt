@@ -55,7 +55,7 @@ impl<R: Read, W: Write> Script for Console<R, W> {
 
     fn outcome(&mut self, o: Outcome) {
         self.last = Some(o);
-        if let Err(e) = writeln!(self.out, "{o}") {
+        if let Err(e) = writeln!(self.out, "{}", o.text().as_str()) {
             self.failed = Some(e);
         }
     }

@@ -27,6 +27,6 @@ module _ {shows : Place → Bool} {at below : ℕ → ℕ → View → View} (la
   passed_over v none s =
       passed Swept v 64
       (λ k l t. (
-        becomes_then a b b (below c (v + k) (says a)) (below c (v + k + 1) (says a)) (at c (v + k)) t.0 (refl, refl, laws.still b c (v + k) (none k l)) (laws.more c (v + k) (says a) (below c (v + k) (says a)) _ refl refl),
+        becomes_then a b b (below c (v + k) (says a)) (below c (v + k + 1) (says a)) (at c (v + k)) t.0 (refl, refl, laws.still b c (v + k) (none k l), refl) (laws.more c (v + k) (says a) (below c (v + k) (says a)) _ refl refl),
         hid_skip t.1 (not_shown (v + k) t.0 (none k l)),
       )) s

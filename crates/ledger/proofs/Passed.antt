@@ -29,7 +29,7 @@ lower_passed n r K d i z =
 pub lowers_passed : (a b : Room) (d i : ℕ) → ((k : ℕ) → k < 64 → low_of b.words.now d (i + k) ≡ 0) → Becomes a (lowers_below d i (says a)) b → Becomes a (lowers_below d (i + 64) (says a)) b
 lowers_passed a b d i none h =
     passed (λ k. Becomes a (lowers_below d k (says a)) b) i 64
-    (λ k l s. becomes_then a b b (lowers_below d (i + k) (says a)) (lowers_below d (i + k + 1) (says a)) (without_lower d (i + k)) s (refl, refl, lower_passed b.frames b.words.now b.consistent d (i + k) (none k l))
+    (λ k l s. becomes_then a b b (lowers_below d (i + k) (says a)) (lowers_below d (i + k + 1) (says a)) (without_lower d (i + k)) s (refl, refl, lower_passed b.frames b.words.now b.consistent d (i + k) (none k l), refl)
     (lowers_more d (i + k) (says a) (lowers_below d (i + k) (says a)) _ refl refl)) h
 
 -- where 64 words are noughts in their lower bits, none of these slots has a table

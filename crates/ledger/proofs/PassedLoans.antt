@@ -82,7 +82,7 @@ pub loans_passed : (a b : Room) (c d v : ℕ) (h : Bool) → ((k : ℕ) → k < 
     Becomes a (with_uses (below c (v + 64) (swept_loan h d)) (says a)) b
 loans_passed a b c d v h without s =
     passed (λ k. Becomes a (with_uses (below c k (swept_loan h d)) (says a)) b) v 64
-    (λ k l t. becomes_then a b b (with_uses (below c (v + k) (swept_loan h d)) (says a)) (with_uses (below c (v + k + 1) (swept_loan h d)) (says a)) (with_uses (on_page c (v + k) (swept_loan h d))) t (refl, refl, loan_still b c (v + k) d h (without k l))
+    (λ k l t. becomes_then a b b (with_uses (below c (v + k) (swept_loan h d)) (says a)) (with_uses (below c (v + k + 1) (swept_loan h d)) (says a)) (with_uses (on_page c (v + k) (swept_loan h d))) t (refl, refl, loan_still b c (v + k) d h (without k l), refl)
     (swept_more c (v + k) (swept_loan h d) (says a) (with_uses (below c (v + k) (swept_loan h d)) (says a)) _ refl refl)) s
 
 -- where no one of 64 words has a tag of d, nothing that these places show is lent to it

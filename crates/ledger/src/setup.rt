@@ -18,6 +18,7 @@ impl<'a> Room<'a> {
         ensures frames { result.frames ≡ frames }
         ensures lender { result.words.ghost_name ≡ words.entry.ghost_name }
         ensures view { view_of frames result.words.now ≡ empty }
+        ensures length { length result.words.now ≡ length words.old }
         ensures beyond { (i : ℕ) → 65536 + 2 * frames ≤ i → slice_index result.words.now i ≡ slice_index words.old i }
     {
         clear_tables(words);

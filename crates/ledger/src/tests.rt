@@ -1,5 +1,6 @@
 // Packed records as a table, and rooms of the fewest and of the most frames.
 ghost use Rattle.ledger.specs.Words.{UseFits};
+ghost use Rattle.ledger.specs.Rooms.{Same};
 ghost use Rattle.std.specs.Prelude.{◌+◌, ◌*◌, ◌<◌, ◌≤◌, length};
 
 use crate::frames::use_at;
@@ -139,7 +140,9 @@ fn loans(rt: HostRuntime) {
 }
 
 // A page at a place that shows nothing.
-fn get(room: &mut Room, at: Address) -> Option<u32> {
+fn get(room: &mut Room, at: Address) -> Option<u32>
+    ensures { Same room.old room.new }
+{
     if room.place(at) != Place::Nothing {
         return None;
     }
@@ -151,6 +154,7 @@ fn get(room: &mut Room, at: Address) -> Option<u32> {
 // How many pages a program can get at its places.
 fn fill(room: &mut Room, who: u32) -> u32
     requires { who < 32 }
+    ensures { Same room.old room.new }
 {
     let mut pages = 0;
     for v in 0..1024 {
@@ -206,7 +210,9 @@ const SLOT: Slot = Slot {
 const PAGE: Address = Address { who: 3, v: 9 };
 
 // Program 3 opens device 2, whose slot 1 gets a lower table.
-fn ready(room: &mut Room) -> Option<u32> {
+fn ready(room: &mut Room) -> Option<u32>
+    ensures { Same room.old room.new }
+{
     if room.device(2) != Device::Shut {
         return None;
     }
@@ -215,7 +221,9 @@ fn ready(room: &mut Room) -> Option<u32> {
     slotted(room)
 }
 
-fn slotted(room: &mut Room) -> Option<u32> {
+fn slotted(room: &mut Room) -> Option<u32>
+    ensures { Same room.old room.new }
+{
     if room.device(2) != Device::Opened(3) || room.lower(SLOT).is_some() {
         return None;
     }
@@ -225,7 +233,9 @@ fn slotted(room: &mut Room) -> Option<u32> {
 }
 
 // The page of program 3 at place 9 is lent to device 2 at page 519, where there is none yet.
-fn lent(room: &mut Room) -> bool {
+fn lent(room: &mut Room) -> bool
+    ensures { Same room.old room.new }
+{
     let Place::Page(f) = room.place(PAGE) else {
         return false;
     };
@@ -248,7 +258,9 @@ fn lent(room: &mut Room) -> bool {
 }
 
 // Device 2 is swept for program 3, if that has it open.
-fn swept(room: &mut Room, home: bool) -> bool {
+fn swept(room: &mut Room, home: bool) -> bool
+    ensures { Same room.old room.new }
+{
     if room.device(2) != Device::Opened(3) {
         return false;
     }

@@ -1,5 +1,5 @@
 // The lines of an input, one at a time, in a buffer of fixed size.
-ghost use Rattle.std.specs.Prelude.{◌≡◌, ◌≤◌, length};
+ghost use Rattle.std.specs.Prelude.{◌≡◌, ◌≤◌, [], ◌∷◌, ◌++◌, length, if◌then◌else◌, nat_lt};
 ghost use Rattle.script.specs.Counts.{Counted};
 
 use crate::reader::LONGEST;
@@ -35,14 +35,16 @@ impl<R: Read> Lines<R> {
     {
         self.held.clear();
         let mut began = false;
-        for byte in self.input.by_ref().bytes() {
+        // Not by `bytes`, which reads again where a read was interrupted: each error is given.
+        for _ in 0..u64::MAX {
+            let mut byte = [0];
+            if self.input.read(&mut byte)? == 0 {
+                break;
+            }
             began = true;
-            match byte? {
-                b'\n' => break,
-                b => {
-                    // What has no room is left out.
-                    let _ = self.held.try_push(b);
-                }
+            match byte {
+                [b'\n'] => break,
+                [b] => keep(&mut self.held, b),
             }
         }
         if !began {
@@ -59,4 +61,11 @@ impl<R: Read> Lines<R> {
     {
         self.held.as_slice()
     }
+}
+
+// Adds a byte to what is held of a line. The 258th and what follows it have no room, and are left out.
+fn keep(held: &mut ArrayVec<u8, ROOM>, b: u8)
+    ensures { held.new.items ≡ (if nat_lt (length held.old.items) 257 then held.old.items ++ b ∷ [] else held.old.items) }
+{
+    let _ = held.try_push(b);
 }

@@ -34,8 +34,7 @@ pub enum Outcome {
 }
 
 impl Outcome {
-    // Writes the text at the front of the buffer, and gives its length.
-    // `Display` cannot take its place: its contract says what is written where `fmt` succeeds, and not that it does.
+    // Writes the text at the front of the buffer, and gives its length. Not `Display`: see `text`.
     pub fn write(self, out: &mut [u8; 32]) -> usize
         ensures within { result ≤ 32 }
         ensures text { take result out.new ≡ text_of self }
@@ -45,7 +44,8 @@ impl Outcome {
         text.len()
     }
 
-    fn text(self) -> ArrayString<32>
+    // The text itself, of at most 32 bytes. Programs print this: `Display` says what is written only where `fmt` succeeds.
+    pub fn text(self) -> ArrayString<32>
         ensures { result.bytes ≡ text_of self }
     {
         let mut text = ArrayString::new();

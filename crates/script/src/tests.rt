@@ -2,6 +2,8 @@
 use crate::*;
 use arrayvec::ArrayString;
 use std::fmt::Write;
+use std::io;
+use std::io::{ErrorKind, Read};
 use std::test::Fail;
 
 const SAMPLES: &[u8] = b"\
@@ -262,5 +264,44 @@ fn displayed_texts(rt: HostRuntime) -> Result<(), Fail> {
         write!(shown, "{outcome}")?;
         assert_eq!(rt; shown.as_str(), text);
     }
+    Ok(())
+}
+
+// A reader that is interrupted once, in mid-line.
+#[derive(Drop)]
+struct Halting {
+    at: u8,
+}
+
+impl Read for Halting {
+    fn read(&mut self, into: &mut [u8]) -> io::Result<usize> {
+        if into.is_empty() {
+            return Ok(0);
+        }
+        self.at = self.at.saturating_add(1);
+        match self.at {
+            1 => {
+                into[0] = b'2';
+                Ok(1)
+            }
+            2 => Err(io::Error::from(ErrorKind::Interrupted)),
+            3 => {
+                into[0] = b'\n';
+                Ok(1)
+            }
+            _ => Ok(0),
+        }
+    }
+}
+
+// Each error is given, this one, too; the next line is what follows it.
+#[test]
+fn interrupted(rt: HostRuntime) -> Result<(), Fail> {
+    let mut lines = Lines::new(Halting { at: 0 });
+    let first = lines.advance();
+    assert!(rt; first.is_err());
+    assert_eq!(rt; lines.advance()?, Some(1));
+    assert!(rt; lines.line().is_empty());
+    assert_eq!(rt; lines.advance()?, None);
     Ok(())
 }

@@ -129,13 +129,17 @@ found_entry es d g l e =
     let z = and_parts (eqb l.device d) (eqb l.page g) h.0 in
     (eqb-true l.device d z.0, eqb-true l.page g z.1, h.1)
 
-pub kept_put : (p q : Parts) (d g : ℕ) (l : PageEntry) (k x : ℕ) → Some l ≡ find (λ e. eqb e.device d && eqb e.page g) p.leaves → k < 512 → x < 18446744073709551616 → PutAt p l.device l.page l.entry k x (Ok tt) q →
+pub kept_put : (p q : Parts) (d g : ℕ) (l : PageEntry) (k x : ℕ) → l.device ≡ d → l.page ≡ g → Memᴰ l p.leaves → k < 512 → x < 18446744073709551616 → PutAt p d g l.entry k x (Ok tt) q → Plays p (line.Kept d g k x) say.Put q
+kept_put p q d g l k x ed eg ml lk lx t =
+    let u : PutAt p l.device l.page l.entry k x (Ok tt) q = subst (λ y. PutAt p l.device y l.entry k x (Ok tt) q) (sym eg) (subst (λ y. PutAt p y g l.entry k x (Ok tt) q) (sym ed) t) in
+    (goes_ran p q (kept_goes p q l k x ml lk lx u), heard_at t.2 (heard.kept_puts d g (frame_in l.entry) k x))
+
+-- the same by the entry that a search finds
+pub kept_found : (p q : Parts) (d g : ℕ) (l : PageEntry) (k x : ℕ) → Some l ≡ find (λ e. eqb e.device d && eqb e.page g) p.leaves → k < 512 → x < 18446744073709551616 → PutAt p l.device l.page l.entry k x (Ok tt) q →
     Plays p (line.Kept d g k x) say.Put q
-kept_put p q d g l k x e lk lx t =
+kept_found p q d g l k x e lk lx t =
     let h = found_entry p.leaves d g l e in
-    subst (λ y. Plays p (line.Kept y g k x) say.Put q) h.0
-    (subst (λ y. Plays p (line.Kept l.device y k x) say.Put q) h.1
-    (goes_ran p q (kept_goes p q l k x h.2 lk lx t), heard_at t.2 (heard.kept_puts l.device l.page (frame_in l.entry) k x)))
+    kept_put p q d g l k x h.0 h.1 h.2 lk lx (subst (λ y. PutAt p d y l.entry k x (Ok tt) q) h.1 (subst (λ y. PutAt p y l.page l.entry k x (Ok tt) q) h.0 t))
 
 pub kept_missed : (p q : Parts) (d g k x : ℕ) → Same p q → Plays p (line.Kept d g k x) say.Miss q
 kept_missed p q d g k x s = (same_ran p q s, heard_at s.1 (heard.kept_misses d g k x))

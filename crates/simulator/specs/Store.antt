@@ -19,6 +19,21 @@ shown_of (Regs d) = Registers d
 abbrev pub space_of : List View → ℕ → ℕ → Shown
 space_of vs c v = cond (nat_lt c 32) (cond (nat_lt v 1024) (shown_of (slice_index_or vs (1024 * c + v) Hidden)) Nothing) Nothing
 
+-- what is left of it where there are n frames; devices are below 32
+abbrev pub within : ℕ → Shown → Shown
+within n Nothing = Nothing
+within n (Frame f) = cond (nat_lt f n) (Frame f) Nothing
+within n (Registers d) = Registers (d % 32)
+
+abbrev pub space_below : ℕ → List View → ℕ → ℕ → Shown
+space_below n vs c v = within n (space_of vs c v)
+
+-- what code calls a view, of n frames
+abbrev pub Viewed : ℕ → View → Shown → Type 0
+Viewed n Hidden s = Nothing ≡ s
+Viewed n (Page f) s = (Frame f ≡ s) × (f < n)
+Viewed n (Regs d) s = Registers d ≡ s
+
 -- only pages in memory, of n frames, are shown
 abbrev pub PagesBelow : ℕ → List View → Type 0
 PagesBelow n vs = (k f : ℕ) → slice_index_or vs k Hidden ≡ Page f → f < n

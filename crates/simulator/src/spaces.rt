@@ -19,7 +19,7 @@ pub struct Spaces<'a> {
 
 impl<'a> Spaces<'a> {
     ghost use Rattle.simulator.specs.declared.spaces.View.TheVariants.{Hidden};
-    ghost use Rattle.simulator.specs.Store.{space_of, shown_of};
+    ghost use Rattle.simulator.specs.Store.{space_of, space_below, shown_of, Viewed};
 
     // Spaces that show nothing.
     pub fn new(places: &'a mut [View]) -> Self
@@ -37,6 +37,19 @@ impl<'a> Spaces<'a> {
         ensures shown { shown_of result ≡ space_of self.now.places.now who v }
     {
         self.places[1024 * who as usize + v as usize]
+    }
+
+    // What a place shows, if there are so many frames: a page in one that there is not is hidden. A device's number is taken modulo 32.
+    pub fn view_below(&self, who: u32, v: u32, frames: u32) -> View
+        requires who { who < 32 }
+        requires v { v < 1024 }
+        ensures { Viewed frames result (space_below frames self.now.places.now who v) }
+    {
+        match self.view(who, v) {
+            View::Page(f) if f >= frames => View::Hidden,
+            View::Regs(d) => View::Regs(d % 32),
+            view => view,
+        }
     }
 
     pub fn set(&mut self, who: u32, v: u32, view: View)

@@ -12,7 +12,7 @@ use Rattle.house.proofs.sweeps.unmap_each.Goals as goal
 use Rattle.house.proofs.sweeps.unmap_each.Goals.{then-present+else-loop-v-test, else-present}
 
 pub loop-block-init : goal.loop-block-init
-loop-block-init g c = ((refl, refl, (g.met.S.Sweep.laws c.args.s).none _ _), hid_none _ _ _ _)
+loop-block-init g c = ((refl, refl, (g.met.S.Sweep.laws c.args.s).none _ _, refl), hid_none _ _ _ _)
 
 pub hide-requires : goal.hide-requires
 hide-requires g c =

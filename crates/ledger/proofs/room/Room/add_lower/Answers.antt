@@ -5,7 +5,7 @@ use Rattle.ledger.proofs.Operations.{lower_made}
 use Rattle.ledger.proofs.room.Room.add_lower.Goals as goal
 
 pub returns : goal.returns
-returns c = (refl, refl, (lower_made c.args.self.now.frames c.args.self.now.words.now c.set_low.new.words c.args.self.now.consistent (omega arith) c.set_use.new.words c.args.at.device c.args.at.index c.args.f c.requires.within c.requires.frame c.requires.live c.requires.missing (c.set_use.ensures.view c.args.self.now.frames c.requires.within ∙ ap (λ (u : Use). with_use c.args.f u (view_of c.args.self.now.frames c.args.self.now.words.now)) c.table_of.ensures) (c.set_low.ensures.view c.args.self.now.frames) (c.set_low.ensures.tags ∙ c.set_use.ensures.tags)).0)
+returns c = (refl, refl, (lower_made c.args.self.now.frames c.args.self.now.words.now c.set_low.new.words c.args.self.now.consistent (omega arith) c.set_use.new.words c.args.at.device c.args.at.index c.args.f c.requires.within c.requires.frame c.requires.live c.requires.missing (c.set_use.ensures.view c.args.self.now.frames c.requires.within ∙ ap (λ (u : Use). with_use c.args.f u (view_of c.args.self.now.frames c.args.self.now.words.now)) c.table_of.ensures) (c.set_low.ensures.view c.args.self.now.frames) (c.set_low.ensures.tags ∙ c.set_use.ensures.tags)).0, omega arith)
 
 pub invariant_of-self : goal.invariant_of-self
 invariant_of-self c = record { consistent = (lower_made c.args.self.now.frames c.args.self.now.words.now c.set_low.new.words c.args.self.now.consistent (omega arith) c.set_use.new.words c.args.at.device c.args.at.index c.args.f c.requires.within c.requires.frame c.requires.live c.requires.missing (c.set_use.ensures.view c.args.self.now.frames c.requires.within ∙ ap (λ (u : Use). with_use c.args.f u (view_of c.args.self.now.frames c.args.self.now.words.now)) c.table_of.ensures) (c.set_low.ensures.view c.args.self.now.frames) (c.set_low.ensures.tags ∙ c.set_use.ensures.tags)).1 }

@@ -8,6 +8,7 @@ returns c =
       frames = refl;
       lender = refl;
       view = cleared_view c.args.frames c.clear_frames.new.words c.requires.some c.clear_frames.ensures.idle (λ i l. c.clear_frames.ensures.others i (inl (omega arith)) ∙ c.clear_tables.ensures.cleared i l);
+      length = omega arith;
       beyond = λ i l. c.clear_frames.ensures.others i (inr l) ∙ c.clear_tables.ensures.others i (omega arith);
     }
 

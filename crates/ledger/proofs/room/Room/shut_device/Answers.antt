@@ -28,4 +28,5 @@ returns c =
       c.drop_upper.ensures.1 ∙ c.drop_lowers.ensures.1 ∙ c.home_all.ensures.1,
       shut_view c.args.self.now.frames c.args.self.now.words.now c.home_all.new.self.words.now c.args.who c.args.d c.requires.owner c.requires.hidden c.home_all.ensures.2 c.drop_lowers.new.self.words.now (seen_from c.args.self.now c.home_all.new.self c.drop_lowers.new.self _ (without_lowers c.args.d) c.home_all.ensures c.drop_lowers.ensures) (still c.args.self.now c.home_all.new.self _ c.home_all.ensures) c.drop_upper.new.self.words.now
           (subst (λ (m : ℕ). view_of m c.drop_upper.new.self.words.now ≡ with_device c.args.d Shut (with_top c.args.d 0 (with_use (top_of c.drop_lowers.new.self.words.now c.args.d) Idle (view_of m c.drop_lowers.new.self.words.now)))) e c.drop_upper.ensures.2),
+      c.drop_upper.ensures.3 ∙ c.drop_lowers.ensures.3 ∙ c.home_all.ensures.3,
     )

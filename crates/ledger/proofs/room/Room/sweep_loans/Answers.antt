@@ -9,7 +9,7 @@ use Rattle.ledger.proofs.room.Room.sweep_loans.Goals as goal
 use Rattle.ledger.proofs.room.Room.sweep_loans.Goals.{then-any_tag_of+else-loop-v-test, else-any_tag_of}
 
 pub loop-block-init : goal.loop-block-init
-loop-block-init c = (refl, refl, swept_none c.args.who (swept_loan c.args.home c.args.d) (view_of c.args.self.now.frames c.args.self.now.words.now))
+loop-block-init c = (refl, refl, swept_none c.args.who (swept_loan c.args.home c.args.d) (view_of c.args.self.now.frames c.args.self.now.words.now), refl)
 
 pub loop-v-preserved : goal.loop-v-preserved
 loop-v-preserved c =

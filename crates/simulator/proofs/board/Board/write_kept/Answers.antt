@@ -2,7 +2,7 @@ use Rattle.std.proofs.Common.{rules, refl}
 use Rattle.script.specs.declared.forms.Line.TheVariants as line
 use Rattle.simulator.specs.View.{parts_of}
 use Rattle.simulator.proofs.Lines.{refused_at}
-use Rattle.simulator.proofs.DeviceLines.{kept_put, kept_missed}
+use Rattle.simulator.proofs.DeviceLines.{kept_found, kept_missed}
 use Rattle.simulator.proofs.board.Board.write_kept.Goals as goal
 
 pub returns-in_err-has_page : goal.returns-in_err-has_page
@@ -18,7 +18,7 @@ returns-in_default c = let z = kept_missed (parts_of c.args.self.now) (parts_of 
 
 pub returns-in-Ok : goal.returns-in-Ok
 returns-in-Ok c =
-    let z = kept_put (parts_of c.args.self.now) (parts_of c.put_at.new.self) c.args.d c.args.p c.in-Some.kept c.args.word c.args.x c.in-Some.ensures c.in_ok-below.ensures c.ranges.x.fits c.in-Ok.ensures in record { ran = z.0; heard = z.1; beyond = search rules }
+    let z = kept_found (parts_of c.args.self.now) (parts_of c.put_at.new.self) c.args.d c.args.p c.in-Some.kept c.args.word c.args.x c.in-Some.ensures c.in_ok-below.ensures c.ranges.x.fits c.in-Ok.ensures in record { ran = z.0; heard = z.1; beyond = search rules }
 
 pub returns-in-Err : goal.returns-in-Err
 returns-in-Err c = let z = kept_missed (parts_of c.args.self.now) (parts_of c.put_at.new.self) c.args.d c.args.p c.args.word c.args.x c.in-Err.ensures.0 in record { ran = z.0; heard = z.1; beyond = search rules }
