@@ -1,5 +1,5 @@
 // The lines of an input, one at a time, in a buffer of fixed size.
-ghost use Rattle.std.specs.Prelude.{◌≡◌, ◌≤◌, [], ◌∷◌, ◌++◌, length, if◌then◌else◌, nat_lt};
+ghost use Rattle.std.specs.Prelude.{◌≡◌, ◌<◌, ◌≤◌, [], ◌∷◌, ◌++◌, length};
 ghost use Rattle.script.specs.Counts.{Counted};
 
 use crate::reader::LONGEST;
@@ -35,7 +35,8 @@ impl<R: Read> Lines<R> {
     {
         self.held.clear();
         let mut began = false;
-        // Not by `bytes`, which reads again where a read was interrupted: each error is given.
+        // Not by `bytes`, which reads again where a read was interrupted: each error is given. Counted, since without a count
+        // a loop until the input ends needs a `Wait` bound, and no function here may have one.
         for _ in 0..u64::MAX {
             let mut byte = [0];
             if self.input.read(&mut byte)? == 0 {
@@ -44,7 +45,7 @@ impl<R: Read> Lines<R> {
             began = true;
             match byte {
                 [b'\n'] => break,
-                [b] => keep(&mut self.held, b),
+                [b] => push(&mut self.held, b),
             }
         }
         if !began {
@@ -64,8 +65,9 @@ impl<R: Read> Lines<R> {
 }
 
 // Adds a byte to what is held of a line. The 258th and what follows it have no room, and are left out.
-fn keep(held: &mut ArrayVec<u8, ROOM>, b: u8)
-    ensures { held.new.items ≡ (if nat_lt (length held.old.items) 257 then held.old.items ++ b ∷ [] else held.old.items) }
+fn push(held: &mut ArrayVec<u8, ROOM>, b: u8)
+    ensures room { length held.old.items < 257 → held.new.items ≡ held.old.items ++ b ∷ [] }
+    ensures full { 257 ≤ length held.old.items → held.new.items ≡ held.old.items }
 {
     let _ = held.try_push(b);
 }
